@@ -1,0 +1,34 @@
+-- What an image says, and the state in which the machine begins to run it.
+use Rattle.std.specs.Prelude.{ℕ, ◌+◌, ◌-◌, false, List, ◌++◌, length, replicate, None}
+use Rattle.mips_isa.specs.Machine.{State, plus}
+
+-- the fields of an image
+pub record ImageFields : Type 0 where
+  pub entry : ℕ
+  pub text : List ℕ
+  pub initial : List ℕ
+  pub memory_words : ℕ
+  pub windows : List (ℕ × ℕ)
+  pub aliases : List (ℕ × ℕ)
+
+-- the memory at the start: the initial words, then zeros
+abbrev pub boot_memory : ImageFields → List ℕ
+boot_memory i = i.initial ++ replicate (i.memory_words - length i.initial) 0
+
+-- the state at the start: all registers, HI and LO are 0
+abbrev pub boot_state : ImageFields → List ℕ → State
+boot_state i input = record {
+  pc = i.entry;
+  npc = plus i.entry 4;
+  regs = replicate 32 0;
+  hi = 0;
+  lo = 0;
+  text = i.text;
+  memory = boot_memory i;
+  feed = input;
+  fed = 0;
+  last_load = 0;
+  quiet = 0;
+  slot = false;
+  end = None;
+}

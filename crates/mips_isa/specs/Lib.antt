@@ -1,0 +1,5 @@
+pub mod Table
+pub mod Inverse
+pub mod Machine
+pub mod Runs
+pub mod Image

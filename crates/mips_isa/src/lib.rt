@@ -1,0 +1,10 @@
+//! The instructions of the machine: the MIPS I user subset, its words and what each reads and writes.
+#![tactic(auto)]
+
+mod instr;
+mod masks;
+mod table;
+
+pub use instr::{Act, End, Instr};
+pub use masks::{reads, writes};
+pub use table::{decode, encode, in_range};
