@@ -5,8 +5,10 @@ ghost use Rattle.std.specs.Prelude.{◌≡◌, ℕ, ◌+◌, ◌-◌, ◌*◌, �
 ghost use Rattle.hard_words.specs.Words.{signed, halves, signed_product, division, signed_division, extended, signed_shift};
 
 mod list;
+mod same;
 
 pub use list::Words;
+pub use same::{same_reflexive, same_transitive};
 use std::alloc::{AllocError, AllocFailed};
 
 /// There was no memory.
