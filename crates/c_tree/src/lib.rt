@@ -1,8 +1,11 @@
-//! The syntax tree of the C subset.
+//! The syntax tree of the C subset, and what a program in it means by ISO/IEC 9899:1999: its output and its end for
+//! each input, as far as some fuel lasts.
 #![tactic(auto)]
 
+mod run;
 mod tree;
 
+pub use run::{EvalEnd, Flow, Value};
 pub use tree::{
     BinaryOp, Expr, Function, GlobalVar, Local, Param, Program, Shape, Stmt, TopItem, Ty, UnaryOp,
 };
