@@ -1,0 +1,2 @@
+//! Texts of numbers.
+#![tactic(auto)]

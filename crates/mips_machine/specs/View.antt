@@ -1,0 +1,21 @@
+-- What a machine stands for.
+use Rattle.mips_isa.specs.Machine.{State}
+use Rattle.mips_machine.specs.declared.Machine.{Machine}
+
+-- the state of the definition of a step, field by field
+abbrev pub state_of : Machine → State
+state_of m = record {
+  pc = m.pc;
+  npc = m.npc;
+  regs = m.regs;
+  hi = m.hi;
+  lo = m.lo;
+  text = m.text;
+  memory = m.memory;
+  feed = m.feed;
+  fed = m.fed;
+  last_load = m.last_load;
+  quiet = m.quiet;
+  slot = m.slot;
+  end = m.end;
+}
