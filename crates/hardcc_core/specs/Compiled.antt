@@ -1,0 +1,54 @@
+-- Which sources are accepted, why the others are refused, and what is promised of the image of a source.
+use Rattle.std.specs.Prelude.{ℕ, ◌≡◌, ◌<◌, ◌≤◌, ◌++◌, List, length, codes}
+use Rattle.c_tree.specs.declared.tree.Program.{Program}
+use Rattle.c_tree.specs.Small.{SmallProgram}
+use Rattle.mips_isa.specs.Image.{ImageFields}
+use Rattle.elf_image.specs.Bounds.{Fits}
+use Rattle.elf_image.specs.Layout.{image_bytes}
+use Rattle.hardcc_core.specs.declared.compiler.Refusal.{Refusal}
+use Rattle.hardcc_core.specs.declared.compiler.Refusal.TheVariants.{TooLong, NotYet, OutOfMemory}
+use Rattle.hardcc_core.specs.SmallText.{IsSmallText}
+use Rattle.hardcc_core.specs.Same.{Same}
+
+-- the greatest number of bytes of a source
+abbrev pub longest_source : ℕ
+longest_source = 1048576
+
+-- the source is the text of the program
+pub record IsSource (source : List ℕ) (program : Program) : Type 0 where
+  pub numbers : List ℕ
+  pub last : ℕ
+  pub text : IsSmallText source numbers last
+  pub tree : SmallProgram numbers last program
+
+-- an accepted source: it is short enough, and of the small form
+pub record IsAccepted (source : List ℕ) : Type 0 where
+  pub short : length source ≤ longest_source
+  pub numbers : List ℕ
+  pub last : ℕ
+  pub text : IsSmallText source numbers last
+
+-- why a source is refused: it is too long, or else it isn't of the small form
+abbrev pub IsRefused : List ℕ → Refusal → Type 0
+IsRefused source TooLong = longest_source < length source
+IsRefused source NotYet = (length source ≤ longest_source) × ((numbers : List ℕ) (last : ℕ) → IsSmallText source numbers last → ⊥)
+IsRefused source OutOfMemory = ⊥
+
+-- the line of a refusal
+abbrev pub refusal_line : Refusal → List ℕ
+refusal_line TooLong = codes "source refused: TooLong\n"
+refusal_line NotYet = codes "source refused: NotYet\n"
+refusal_line OutOfMemory = codes ""
+
+-- What is promised of the image that a source is compiled to: a file can hold it, and it does what the source's program does.
+pub record Compiles (source : List ℕ) (fields : ImageFields) : Type 0 where
+  pub program : Program
+  pub is_source : IsSource source program
+  pub fits : Fits fields
+  pub same : Same program fields
+
+-- What is promised of the bytes of that image.
+pub record IsCompiled (source image : List ℕ) : Type 0 where
+  pub fields : ImageFields
+  pub file : image ≡ image_bytes fields
+  pub compiles : Compiles source fields

@@ -1,0 +1,103 @@
+//! From a source to its image.
+
+ghost use Rattle.std.specs.Prelude.{◌≡◌, ◌≤◌, ◌+◌, ◌*◌, ◌++◌, ℕ, List, IfOk, OnOk, IsErrOf, length};
+ghost use Rattle.elf_image.specs.Layout.{fields_of};
+ghost use Rattle.hardcc_core.specs.Compiled.{IsAccepted, IsRefused, Compiles};
+ghost use Rattle.hardcc_core.specs.SmallWords.{small_words, small_fields, service_words};
+
+use crate::small_text::{SmallText, read_small};
+use elf_image::{Aliases, Image, Windows};
+use hard_words::{OutOfMemory, Words};
+use mips_isa::{Instr, encode};
+use std::alloc::{AllocError, Global};
+use thiserror::Error;
+
+/// Why a source is not compiled.
+#[derive(Clone, Copy, Debug, PartialEq, Eq, Error)]
+pub enum Refusal {
+    /// The source has more than 1,048,576 bytes.
+    #[error("the source is too long")]
+    TooLong,
+    /// The source is not of the small form that is compiled so far.
+    #[error("the source is not of the form that is compiled so far")]
+    NotYet,
+    /// There was no memory.
+    #[error("out of memory")]
+    OutOfMemory,
+}
+
+// The service numbers of the machine that are used.
+const PUT_OUT: u16 = 1;
+
+const EXIT: u16 = 17;
+
+/// The image of a source of at most 1,048,576 bytes: the source's program as words for the machine.
+///
+/// A source is accepted exactly where it is of the small form: `int main(void){`, calls `out_word(N);`,
+/// `return N;` and `}`.
+pub fn compile(alloc: Global, source: &[u8]) -> Result<Image, Refusal>
+    ensures ok { IfOk result (λ image. Compiles source.now (fields_of image)) }
+    ensures accepted { IfOk result (λ image. IsAccepted source.now) }
+    ensures refused { (refusal : Refusal) → IsErrOf result refusal → (refusal ≡ Refusal.OutOfMemory → ⊥) → IsRefused source.now refusal }
+{
+    if source.len() > 1_048_576 {
+        return Err(Refusal::TooLong);
+    }
+    match read_small(alloc, source) {
+        Err(OutOfMemory) => Err(Refusal::OutOfMemory),
+        Ok(None) => Err(Refusal::NotYet),
+        Ok(Some(small)) => match image_of(alloc, &small) {
+            Err(OutOfMemory) => Err(Refusal::OutOfMemory),
+            Ok(image) => Ok(image),
+        },
+    }
+}
+
+// The image of a small text.
+fn image_of(alloc: Global, small: &SmallText) -> Result<Image, OutOfMemory>
+    ensures { IfOk result (λ image. fields_of image ≡ small_fields small.now.numbers small.now.last) }
+{
+    let text = emit(alloc, small)?;
+    Ok(Image {
+        entry: 0x0040_0000,
+        text: Words::from_vec(text),
+        initial: Words::new(alloc),
+        memory_words: 1,
+        windows: Windows::new(alloc),
+        aliases: Aliases::new(alloc),
+    })
+}
+
+// The words of a small text.
+fn emit(alloc: Global, small: &SmallText) -> Result<Vec<u32>, AllocError>
+    ensures { IfOk result (λ text. text.items ≡ small_words small.now.numbers small.now.last) }
+{
+    let mut text = Vec::new(alloc);
+    for number in small.numbers.as_slice() {
+        put_service(&mut text, *number, PUT_OUT)?;
+    }
+    put_service(&mut text, small.last, EXIT)?;
+    Ok(text)
+}
+
+// A service of the machine on a number: `lui $4 ; ori $4 ; ori $2 ; syscall`.
+fn put_service(text: &mut Vec<u32>, number: u32, service: u16) -> Result<(), AllocError>
+    ensures { OnOk result (text.new.items ≡ text.old.items ++ service_words number service) }
+{
+    let high = encode(Instr::Lui {
+        rt: 4,
+        imm: (number / 65536) as u16,
+    });
+    let low = encode(Instr::Ori {
+        rt: 4,
+        rs: 4,
+        imm: (number % 65536) as u16,
+    });
+    let set_service = encode(Instr::Ori {
+        rt: 2,
+        rs: 0,
+        imm: service,
+    });
+    let call = encode(Instr::Syscall);
+    text.extend_from_slice(&[high, low, set_service, call])
+}
