@@ -1,3 +1,5 @@
 pub mod Operators
 pub mod Run
 pub mod Meaning
+pub mod Sizes
+pub mod Shaped
