@@ -3,3 +3,4 @@ pub mod Run
 pub mod Meaning
 pub mod Sizes
 pub mod Shaped
+pub mod Small
