@@ -2,10 +2,14 @@
 //! each input, as far as some fuel lasts.
 #![tactic(auto)]
 
+mod laws;
 mod run;
+mod sizes;
 mod tree;
 
+pub use laws::small_runs;
 pub use run::{EvalEnd, Flow, Value};
+pub use sizes::{depth, nodes};
 pub use tree::{
     BinaryOp, Expr, Function, GlobalVar, Local, Param, Program, Shape, Stmt, TopItem, Ty, UnaryOp,
 };
