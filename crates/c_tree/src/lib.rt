@@ -4,12 +4,10 @@
 
 mod laws;
 mod run;
-mod sizes;
 mod tree;
 
 pub use laws::small_runs;
 pub use run::{EvalEnd, Flow, Value};
-pub use sizes::{depth, nodes};
 pub use tree::{
     BinaryOp, Expr, Function, GlobalVar, Local, Param, Program, Shape, Stmt, TopItem, Ty, UnaryOp,
 };

@@ -24,11 +24,3 @@ command_of _ = None
 -- the same, of words as texts
 abbrev pub command : List (String Global) → Option Command
 command words = command_of (map (λ word. string_bytes word) words)
-
--- the files that a command reads
-abbrev pub Reads : Command → List ℕ → Type 0
-Reads (Compile source image) name = name ≡ source
-
--- the file that a command puts
-abbrev pub Puts : Command → List ℕ → Type 0
-Puts (Compile source image) name = name ≡ image

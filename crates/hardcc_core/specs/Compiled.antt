@@ -34,6 +34,12 @@ IsRefused source TooLong = longest_source < length source
 IsRefused source NotYet = (length source ≤ longest_source) × ((numbers : List ℕ) (last : ℕ) → IsSmallText source numbers last → ⊥)
 IsRefused source OutOfMemory = ⊥
 
+-- why a source isn't compiled: it is refused, or there was no memory
+abbrev pub IsNotCompiled : List ℕ → Refusal → Type 0
+IsNotCompiled source TooLong = IsRefused source TooLong
+IsNotCompiled source NotYet = IsRefused source NotYet
+IsNotCompiled source OutOfMemory = Unit {0}
+
 -- the line of a refusal
 abbrev pub refusal_line : Refusal → List ℕ
 refusal_line TooLong = codes "source refused: TooLong\n"

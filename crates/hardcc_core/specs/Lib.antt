@@ -5,3 +5,4 @@ pub mod Commands
 pub mod Compiled
 pub mod Outcomes
 pub mod Seen
+pub mod Failures

@@ -1,5 +1,5 @@
 -- What it is that an image does as its program does.
-use Rattle.std.specs.Prelude.{ℕ, ◌≡◌, ◌<◌, ◌^◌, List, [], ◌∷◌, Option, Some, None}
+use Rattle.std.specs.Prelude.{ℕ, ◌≡◌, ◌<◌, ◌≤◌, ◌^◌, List, [], ◌∷◌, Option, Some, None, length}
 use Rattle.hard_words.specs.Observed.{Seen, Observation, SameObserved}
 use Rattle.mips_isa.specs.declared.instr.End.{End}
 use Rattle.mips_isa.specs.declared.instr.End.TheVariants as machine
@@ -9,7 +9,8 @@ use Rattle.c_tree.specs.declared.tree.Program.{Program}
 use Rattle.c_tree.specs.declared.run.EvalEnd.{EvalEnd}
 use Rattle.c_tree.specs.declared.run.EvalEnd.TheVariants as program
 use Rattle.c_tree.specs.Meaning.{CRan, c_run}
-use Rattle.hardcc_core.specs.SmallWords.{AreWords}
+use Rattle.c_tree.specs.Small.{SmallProgram}
+use Rattle.hardcc_core.specs.SmallWords.{AreWords, small_words, small_fields}
 
 -- what is seen of a run of the machine
 abbrev pub seen : Ran → Seen End
@@ -38,3 +39,8 @@ program_seen program input fuel = c_seen (c_run program input fuel)
 -- program goes on.
 abbrev pub Same : Program → ImageFields → Type 0
 Same program image = (input : List ℕ) → AreWords input → SameObserved (image_seen image input) (program_seen program input)
+
+-- The image of a small text does what its program does.
+abbrev pub SmallSame : Type 0
+SmallSame = (numbers : List ℕ) (last : ℕ) (program : Program) → SmallProgram numbers last program → AreWords numbers → last < 2 ^ 32 →
+    length (small_words numbers last) ≤ 66060288 → Same program (small_fields numbers last)

@@ -1,6 +1,5 @@
 -- The small text of C: a `main` that puts out constant words and returns one (ISO/IEC 9899, 5.1.2.2.1, 6.8.6.4).
-use Rattle.std.specs.Prelude.{ℕ, ◌≡◌, ◌≤◌, ◌==◌, ◌||◌, ◌++◌, Bool, IsTrue, List, [], ◌∷◌, codes, decimal}
-use Rattle.std.specs.List.{list_all}
+use Rattle.std.specs.Prelude.{ℕ, ◌≡◌, ◌≤◌, ◌==◌, ◌||◌, ◌++◌, Bool, IsTrue, All, List, [], ◌∷◌, codes, decimal}
 
 -- a space, a tab, a carriage return or a line feed
 abbrev pub is_blank : ℕ → Bool
@@ -8,7 +7,7 @@ is_blank b = (b == 32) || ((b == 9) || ((b == 13) || (b == 10)))
 
 -- all bytes are blank
 abbrev pub AreBlank : List ℕ → Type 0
-AreBlank bs = IsTrue (list_all is_blank bs)
+AreBlank bs = All (λ b. IsTrue (is_blank b)) bs
 
 -- the largest number that may be written, that of `int` in 32 bits (ISO/IEC 9899, 5.2.4.2.1)
 abbrev pub largest : ℕ

@@ -1,8 +1,8 @@
 //! From a source to its image.
 
-ghost use Rattle.std.specs.Prelude.{◌≡◌, ◌≤◌, ◌+◌, ◌*◌, ◌++◌, ℕ, List, IfOk, OnOk, IsErrOf, length};
+ghost use Rattle.std.specs.Prelude.{◌≡◌, ◌≤◌, ◌+◌, ◌*◌, ◌++◌, ℕ, List, IfOk, OnOk, IfErr, length};
 ghost use Rattle.elf_image.specs.Layout.{fields_of};
-ghost use Rattle.hardcc_core.specs.Compiled.{IsAccepted, IsRefused, Compiles};
+ghost use Rattle.hardcc_core.specs.Compiled.{IsAccepted, IsNotCompiled, Compiles};
 ghost use Rattle.hardcc_core.specs.SmallWords.{small_words, small_fields, service_words};
 
 use crate::small_text::{SmallText, read_small};
@@ -38,7 +38,7 @@ const EXIT: u16 = 17;
 pub fn compile(alloc: Global, source: &[u8]) -> Result<Image, Refusal>
     ensures ok { IfOk result (λ image. Compiles source.now (fields_of image)) }
     ensures accepted { IfOk result (λ image. IsAccepted source.now) }
-    ensures refused { (refusal : Refusal) → IsErrOf result refusal → (refusal ≡ Refusal.OutOfMemory → ⊥) → IsRefused source.now refusal }
+    ensures refused { IfErr result (λ refusal. IsNotCompiled source.now refusal) }
 {
     if source.len() > 1_048_576 {
         return Err(Refusal::TooLong);

@@ -1,8 +1,14 @@
 //! Laws of the definitions.
 
 ghost use Rattle.hardcc_core.specs.SmallWords.{PutsOut};
+ghost use Rattle.hardcc_core.specs.Same.{SmallSame};
 
-/// The image of a small text puts out each number in order, and ends with the last.
+/// The run of the image of a small text puts out each number in order, and ends with the last.
 pub fn straight_line()
     ensures { PutsOut }
+{}
+
+/// The image of a small text does what its program does.
+pub fn small_same()
+    ensures { SmallSame }
 {}

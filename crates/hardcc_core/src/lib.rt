@@ -3,10 +3,12 @@
 
 mod command;
 mod compiler;
+mod failure;
 mod laws;
 mod small_text;
 mod tool;
 
 pub use compiler::{Refusal, compile};
-pub use laws::straight_line;
+pub use laws::{small_same, straight_line};
+pub use small_text::small_text_laws;
 pub use tool::run_tool;

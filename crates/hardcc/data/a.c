@@ -1,0 +1,1 @@
+int main(void){ out_word(5); return 0; }
