@@ -5,6 +5,7 @@ use hard_shelf::{DirShelf, OutSink};
 use hardcc_core::run_tool;
 use std::alloc::AllocError;
 use std::env;
+use std::io::ErrorKind;
 use std::process::ExitCode;
 use std::rt::{Env, Files};
 
@@ -25,8 +26,15 @@ fn status<R: Env + Files + Print + AllocGlobal>(rt: &R) -> u8 {
 // The words behind the program's name, or none where one of them isn't UTF-8.
 fn words_of<R: Env + AllocGlobal>(rt: &R) -> Result<Vec<String>, AllocError> {
     let mut words = Vec::new(rt.alloc());
-    let Ok(args) = env::args(rt) else {
-        return Ok(words);
+    let args = match env::args(rt) {
+        Ok(args) => args,
+        Err(error) => {
+            return if error.kind() == ErrorKind::OutOfMemory {
+                Err(AllocError)
+            } else {
+                Ok(words)
+            };
+        }
     };
     for word in args.skip(1) {
         words.push(word)?;
