@@ -3,8 +3,9 @@
 
 mod instr;
 mod masks;
+mod rows;
 mod table;
 
 pub use instr::{Act, End, Instr};
-pub use masks::{reads, writes};
+pub use masks::{is_jump, is_product, reads, reads_register, writes};
 pub use table::{decode, encode, in_range};
