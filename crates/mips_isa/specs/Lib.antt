@@ -4,3 +4,4 @@ pub mod Inverse
 pub mod Machine
 pub mod Runs
 pub mod Image
+pub mod Locality

@@ -2,10 +2,12 @@
 #![tactic(auto)]
 
 mod instr;
+mod laws;
 mod masks;
 mod rows;
 mod table;
 
 pub use instr::{Act, End, Instr};
+pub use laws::{act_asks, act_puts, act_reaches, act_twins, act_ways, going_jumps, same_act};
 pub use masks::{is_jump, is_product, reads, reads_register, writes};
 pub use table::{decode, encode, in_range};

@@ -1,0 +1,38 @@
+// Laws of the machine's definitions. Each call does nothing; its contract is the law.
+ghost use Rattle.mips_isa.specs.Locality.{SameAct, ActPuts, ActTwins, ActAsks, ActWays, ActReaches, GoingJumps};
+
+/// An instruction does the same in two states that agree in pc and in the registers that it reads, and, where it moves HI or
+/// LO, in these.
+pub fn same_act()
+    ensures { SameAct }
+{}
+
+/// What an instruction does writes the registers of its row, where it does not end the run.
+pub fn act_puts()
+    ensures { ActPuts }
+{}
+
+/// An instruction that only computes, loads or moves does acts of one kind in two states of one pc, or ends in an overflow.
+pub fn act_twins()
+    ensures { ActTwins }
+{}
+
+/// Only an instruction that reads registers 2 and 4 calls a service.
+pub fn act_asks()
+    ensures { ActAsks }
+{}
+
+/// A branch or a jump goes to its target, or, not taken, to the word behind its delay slot.
+pub fn act_ways()
+    ensures { ActWays }
+{}
+
+/// Memory is reached by `lw` and `sw` alone, at base and offset.
+pub fn act_reaches()
+    ensures { ActReaches }
+{}
+
+/// Only a branch or a jump goes anywhere but to the next word.
+pub fn going_jumps()
+    ensures { GoingJumps }
+{}
