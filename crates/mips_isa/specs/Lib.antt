@@ -5,3 +5,5 @@ pub mod Machine
 pub mod Runs
 pub mod Image
 pub mod Locality
+pub mod RunLaws
+pub mod Faults

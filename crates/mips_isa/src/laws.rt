@@ -1,5 +1,6 @@
 // Laws of the machine's definitions. Each call does nothing; its contract is the law.
 ghost use Rattle.mips_isa.specs.Locality.{SameAct, ActPuts, ActTwins, ActAsks, ActWays, ActReaches, GoingJumps};
+ghost use Rattle.mips_isa.specs.RunLaws.{OutputGrows, EndStays, RunBegins, RunJoins, SameBefore, CleanBehind, FlipSplits, DivertSplits};
 
 /// An instruction does the same in two states that agree in pc and in the registers that it reads, and, where it moves HI or
 /// LO, in these.
@@ -35,4 +36,44 @@ pub fn act_reaches()
 /// Only a branch or a jump goes anywhere but to the next word.
 pub fn going_jumps()
     ensures { GoingJumps }
+{}
+
+/// What a run has put out stays put out.
+pub fn output_grows()
+    ensures { OutputGrows }
+{}
+
+/// After an end nothing changes.
+pub fn end_stays()
+    ensures { EndStays }
+{}
+
+/// A run begins with its first step.
+pub fn run_begins()
+    ensures { RunBegins }
+{}
+
+/// A run goes on, from what stands after some steps, as a run from there.
+pub fn run_joins()
+    ensures { RunJoins }
+{}
+
+/// Up to its step a change does nothing.
+pub fn same_before()
+    ensures { SameBefore }
+{}
+
+/// Behind the step of its change a run goes on as one without a change.
+pub fn clean_behind()
+    ensures { CleanBehind }
+{}
+
+/// A run with a flip is the clean run up to its step, and then a clean run from the state with the bit inverted.
+pub fn flip_splits()
+    ensures { FlipSplits }
+{}
+
+/// A run with a divert is the clean run up to and with its step, and then a clean run from the state with the other way.
+pub fn divert_splits()
+    ensures { DivertSplits }
 {}
