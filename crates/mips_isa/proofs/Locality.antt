@@ -61,8 +61,8 @@ checked_twins : (at bt d : ℕ) (y z : ℤ) → at ≡ bt → Twins at (d ∷ []
 checked_twins at bt d y z e =
     subst (λ (p : ℕ). Twins at (d ∷ []) (checked at d y) (checked p d z)) e
     (checked_by (λ (a : Act). Twins at (d ∷ []) a (checked at d z)) at d y
-        (checked_by (Twins at (d ∷ []) (Write d (cast_unsigned w32 y))) at d z (refl, inl (_, refl)) (refl, inr refl))
-        refl)
+    (checked_by (Twins at (d ∷ []) (Write d (cast_unsigned w32 y))) at d z (refl, inl (_, refl)) (refl, inr refl))
+    refl)
 
 no_data : (A : Type 0) → false ≡ true → A
 no_data A h = absurd cc

@@ -2,7 +2,8 @@
 use Rattle.std.specs.Prelude.{ℕ, ◌+◌, ◌-◌, false, List, ◌++◌, length, replicate, None}
 use Rattle.mips_isa.specs.Machine.{State, plus}
 
--- the fields of an image
+-- The fields of an image: the address of the first instruction, the text, the words that memory begins with, the words of
+-- memory, and the pairs that the image lists for its guarantee (an address and a register; two addresses of the text).
 pub record ImageFields : Type 0 where
   pub entry : ℕ
   pub text : List ℕ
@@ -11,11 +12,11 @@ pub record ImageFields : Type 0 where
   pub windows : List (ℕ × ℕ)
   pub aliases : List (ℕ × ℕ)
 
--- the memory at the start: the initial words, then zeros
+-- The memory at the start: the initial words, then zeros.
 abbrev pub boot_memory : ImageFields → List ℕ
 boot_memory i = i.initial ++ replicate (i.memory_words - length i.initial) 0
 
--- the state at the start: all registers, HI and LO are 0
+-- The state at the start: pc at the entry, all registers, HI and LO 0, nothing of the input taken.
 abbrev pub boot_state : ImageFields → List ℕ → State
 boot_state i input = record {
   pc = i.entry;
