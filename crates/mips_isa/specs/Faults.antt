@@ -17,11 +17,15 @@ image_run i input change n = run (boot_state i input) change n
 abbrev pub IsFlip : ℕ → ℕ → Type 0
 IsFlip r bit = (1 ≤ r) × (r ≤ 31) × (bit ≤ 31)
 
--- The ends that tell of a fault: a report, or an exception for an address that is not aligned on a load or fetch, an address
--- outside memory, or an overflow (codes 4, 7 and 12 of the manual's Cause register).
+-- The codes of an exception that tells of a fault: an address that is not aligned on a load or a fetch, an address outside
+-- memory, an overflow (codes 4, 7 and 12 of the manual's Cause register).
+abbrev pub IsTelling : ℕ → Type 0
+IsTelling c = (c ≡ 4) ⊎ ((c ≡ 7) ⊎ (c ≡ 12))
+
+-- The ends that tell of a fault: a report, or such an exception.
 abbrev pub Tells : End → Type 0
 Tells (Reported code at) = Unit {0}
-Tells (Exception code at) = (code ≡ 4) ⊎ ((code ≡ 7) ⊎ (code ≡ 12))
+Tells (Exception code at) = IsTelling code
 Tells _ = ⊥
 
 -- Nothing of the fault is seen: output and end are those of the clean run.

@@ -7,3 +7,4 @@ pub mod Image
 pub mod Locality
 pub mod RunLaws
 pub mod Faults
+pub mod Beside

@@ -1,5 +1,6 @@
 // Laws of the machine's definitions. Each call does nothing; its contract is the law.
 ghost use Rattle.mips_isa.specs.Locality.{SameAct, ActPuts, ActTwins, ActAsks, ActWays, ActReaches, GoingJumps};
+ghost use Rattle.mips_isa.specs.Beside.{ActBeside};
 ghost use Rattle.mips_isa.specs.RunLaws.{OutputGrows, EndStays, RunBegins, RunJoins, SameBefore, CleanBehind, FlipSplits, DivertSplits};
 
 /// An instruction does the same in two states that agree in pc and in the registers that it reads, and, where it moves HI or
@@ -36,6 +37,12 @@ pub fn act_reaches()
 /// Only a branch or a jump goes anywhere but to the next word.
 pub fn going_jumps()
     ensures { GoingJumps }
+{}
+
+/// One act on two states side by side, of which the second has other registers, another HI and LO, and another memory, keeps
+/// what it may keep.
+pub fn act_beside()
+    ensures { ActBeside }
 {}
 
 /// What a run has put out stays put out.

@@ -16,8 +16,9 @@ mod tests;
 
 pub use instr::{Act, End, Instr};
 pub use laws::{
-    act_asks, act_puts, act_reaches, act_twins, act_ways, clean_behind, divert_splits, end_stays,
-    flip_splits, going_jumps, output_grows, run_begins, run_joins, same_act, same_before,
+    act_asks, act_beside, act_puts, act_reaches, act_twins, act_ways, clean_behind, divert_splits,
+    end_stays, flip_splits, going_jumps, output_grows, run_begins, run_joins, same_act,
+    same_before,
 };
 pub use masks::{is_jump, is_product, reads, reads_register, writes};
 pub use table::{decode, decodes_encoded, encode, encodes_decoded, in_range};
