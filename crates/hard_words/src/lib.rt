@@ -1,17 +1,28 @@
-//! Arithmetic on words of 32 bits, lists of them, and a single change of a register or of the way.
+//! Words of 32 bits: their arithmetic, lists of them, a change of one step of a run, and the notion of two runs that are the
+//! same observed from outside.
+//!
+//! A word is a `u32` with no sign of its own. The arithmetic is that of the MIPS I user instructions (Kane and Heinrich,
+//! *MIPS RISC Architecture*, appendix A): sums, differences and products modulo 2^32, products of 64 bits in two halves,
+//! quotients with remainders, shifts by the low five bits, comparisons and sign extension, each with and without sign where
+//! the two differ. A word read with its sign is its number in two's complement. No call of it takes memory, and each is total;
+//! only [`flip_bit`] has a condition.
 #![tactic(auto)]
 
-ghost use Rattle.std.specs.Prelude.{◌≡◌, ℕ, ◌+◌, ◌-◌, ◌*◌, ◌/◌, ◌%◌, ◌^◌, ◌<◌, ◌≤◌, nat_lt, int_lt, bit_xor};
-ghost use Rattle.hard_words.specs.Words.{signed, halves, signed_product, division, signed_division, extended, signed_shift};
-
+mod arithmetic;
 mod list;
 mod same;
+#[cfg(test)]
+mod tests;
 
+pub use arithmetic::{
+    add, divide, divide_signed, flip_bit, less, less_signed, mul, product, product_signed,
+    shift_left, shift_right, shift_right_signed, sign16, sub,
+};
 pub use list::Words;
 pub use same::{same_reflexive, same_transitive};
 use std::alloc::{AllocError, AllocFailed};
 
-/// There was no memory.
+/// There was no memory. Each call that takes memory answers this, or a variant of this name, where none is left.
 #[derive(Clone, Copy, Debug, PartialEq, Eq)]
 pub struct OutOfMemory;
 
@@ -27,124 +38,20 @@ impl<T: Drop> From<AllocFailed<T>> for OutOfMemory {
     }
 }
 
+/// A change of one step of a run.
 #[derive(Clone, Copy, Debug, PartialEq, Eq)]
 pub struct Change {
+    /// The number of the step, counted from 0.
     pub step: u64,
+    /// What is changed at it.
     pub kind: ChangeKind,
 }
 
+/// What a change changes.
 #[derive(Clone, Copy, Debug, PartialEq, Eq)]
 pub enum ChangeKind {
+    /// Just before the step, one bit of a general register is inverted. `reg` and `bit` are at most 31; register 0 stays 0.
     Flip { reg: u8, bit: u8 },
+    /// Just after a step that was of a branch or a jump, the word behind its delay slot is the one at this address.
     Divert { to: u32 },
-}
-
-pub fn flip_bit(word: u32, bit: u8) -> u32
-    requires { bit ≤ 31 }
-    ensures { result ≡ bit_xor word (2 ^ bit) }
-{
-    word ^ (1 << bit)
-}
-
-pub fn add(a: u32, b: u32) -> u32
-    ensures { result ≡ (a + b) % 2 ^ 32 }
-{
-    a.wrapping_add(b)
-}
-
-pub fn sub(a: u32, b: u32) -> u32
-    ensures { result ≡ (a + (2 ^ 32 - b)) % 2 ^ 32 }
-{
-    a.wrapping_sub(b)
-}
-
-pub fn mul(a: u32, b: u32) -> u32
-    ensures { result ≡ (a * b) % 2 ^ 32 }
-{
-    a.wrapping_mul(b)
-}
-
-pub fn shift_left(a: u32, b: u32) -> u32
-    ensures { result ≡ (a * 2 ^ (b % 32)) % 2 ^ 32 }
-{
-    a.wrapping_shl(b)
-}
-
-pub fn shift_right(a: u32, b: u32) -> u32
-    ensures { result ≡ a / 2 ^ (b % 32) }
-{
-    a.wrapping_shr(b)
-}
-
-pub fn shift_right_signed(a: u32, b: u32) -> u32
-    ensures { result ≡ signed_shift a b }
-{
-    let by = b % 32;
-    if a < 1 << 31 {
-        a >> by
-    } else {
-        u32::MAX - ((u32::MAX - a) >> by)
-    }
-}
-
-pub fn less(a: u32, b: u32) -> bool
-    ensures { result ≡ nat_lt a b }
-{
-    a < b
-}
-
-pub fn less_signed(a: u32, b: u32) -> bool
-    ensures { result ≡ int_lt (signed a) (signed b) }
-{
-    a.cast_signed() < b.cast_signed()
-}
-
-pub fn product(a: u32, b: u32) -> (u32, u32)
-    ensures { result ≡ halves (a * b) }
-{
-    let whole = a as u64 * b as u64;
-    ((whole >> 32) as u32, (whole & 0xffff_ffff) as u32)
-}
-
-pub fn product_signed(a: u32, b: u32) -> (u32, u32)
-    ensures { result ≡ signed_product a b }
-{
-    let whole = (a.cast_signed() as i64 * b.cast_signed() as i64).cast_unsigned();
-    ((whole >> 32) as u32, (whole & 0xffff_ffff) as u32)
-}
-
-pub fn divide(a: u32, b: u32) -> (u32, u32)
-    ensures { result ≡ division a b }
-{
-    if b == 0 {
-        (a, u32::MAX)
-    } else {
-        (a % b, a / b)
-    }
-}
-
-pub fn divide_signed(a: u32, b: u32) -> (u32, u32)
-    ensures { result ≡ signed_division a b }
-{
-    if b == 0 {
-        (a, u32::MAX)
-    } else {
-        let over = a.cast_signed();
-        let under = b.cast_signed();
-        (
-            over.wrapping_rem(under).cast_unsigned(),
-            over.wrapping_div(under).cast_unsigned(),
-        )
-    }
-}
-
-pub fn sign16(half: u16) -> u32
-    ensures { result ≡ extended half }
-{
-    let word = half as u32;
-    if half < 1 << 15 {
-        word
-    } else {
-        word | 0xffff_0000
-    }
 }

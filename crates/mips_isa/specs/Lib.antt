@@ -1,5 +1,10 @@
+pub mod Rows
 pub mod Table
 pub mod Inverse
 pub mod Machine
 pub mod Runs
 pub mod Image
+pub mod Locality
+pub mod RunLaws
+pub mod Faults
+pub mod Beside
