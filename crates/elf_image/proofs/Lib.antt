@@ -1,1 +1,5 @@
 pub mod Told
+pub mod Has
+pub mod Checks
+pub mod Refused
+pub mod Fields

@@ -75,7 +75,7 @@ unfoldable pub table_checks : List ℕ → List Check
 table_checks bytes = field_checks HEADER bytes
 
 -- the header, but for the entry and the place of the sections
-abbrev pub header_checks : List ℕ → List Check
+unfoldable pub header_checks : List ℕ → List Check
 header_checks bytes =
     check (nat_le 52 (length bytes)) (Truncated 52 (length bytes))
     ∷ check (number_at 4 0 bytes == 0x7f454c46) NotElf
@@ -93,7 +93,7 @@ data_segment_holds bytes = let s = segment_sizes bytes in
     has 4 (data_segment s) 84 bytes && (nat_le 1 s.memory_words && (nat_le s.memory_words 4194304 && nat_le s.initial s.memory_words))
 
 -- the segments and the entry
-abbrev pub segment_checks : List ℕ → List Check
+unfoldable pub segment_checks : List ℕ → List Check
 segment_checks bytes =
     check (nat_le 116 (length bytes)) (Truncated 116 (length bytes))
     ∷ check (text_segment_holds bytes) (BadSegment 0)
@@ -102,7 +102,7 @@ segment_checks bytes =
     ∷ []
 
 -- the place of the sections, and the file's size
-abbrev pub size_checks : List ℕ → List Check
+unfoldable pub size_checks : List ℕ → List Check
 size_checks bytes =
     check ((told_at bytes % 4 == 0) && nat_le (windows_at (segment_sizes bytes) + 52) (told_at bytes)) (BadHeader 32)
     ∷ check (nat_le (told_at bytes + 240) (length bytes)) (Truncated (told_at bytes + 240) (length bytes))
@@ -114,7 +114,7 @@ abbrev pub ends_before : ℕ → ℕ → List ℕ → Bool
 ends_before end next bytes = nat_le end (number_at 4 next bytes) && nat_le end (length bytes)
 
 -- the first three sections
-abbrev pub fixed_checks : List ℕ → List Check
+unfoldable pub fixed_checks : List ℕ → List Check
 fixed_checks bytes =
     check (has 4 no_section (told_at bytes) bytes) (BadSection 0)
     ∷ check (has 4 (text_section (segment_sizes bytes)) (told_at bytes + 40) bytes) (BadSection 1)
@@ -142,25 +142,31 @@ names_hold bytes = let s = sizes_told bytes in
     && ((names_at s + 52 == told_at bytes) && has 1 names (names_at s) bytes)
 
 -- the windows, the aliases and the names, each with its section
-abbrev pub list_checks : List ℕ → List Check
+unfoldable pub list_checks : List ℕ → List Check
 list_checks bytes =
     check (windows_hold bytes) (BadSection 3)
     ∷ check (aliases_hold bytes) (BadSection 4)
     ∷ check (names_hold bytes) (BadSection 5)
     ∷ []
 
--- all checks in order
-abbrev pub checks : List ℕ → List Check
-checks bytes = header_checks bytes ++ (segment_checks bytes ++ (size_checks bytes ++ (fixed_checks bytes ++ list_checks bytes)))
+-- the first of two refusals
+abbrev pub first_of : Option ImageError → Option ImageError → Option ImageError
+first_of None later = later
+first_of (Some e) later = Some e
 
--- why a file is refused, if it is
+-- why a file is refused, if it is: the first of all these checks that fails
 unfoldable pub refusal : List ℕ → Option ImageError
-refusal bytes = first_fault (checks bytes)
+refusal bytes =
+    first_of (first_fault (header_checks bytes))
+    (first_of (first_fault (segment_checks bytes))
+    (first_of (first_fault (size_checks bytes))
+    (first_of (first_fault (fixed_checks bytes)) (first_fault (list_checks bytes)))))
 
 -- a field of one, two or four bytes of the header
 abbrev pub field_fits : Field → Bool
 field_fits f = nat_le (f.at + f.size) 52 && ((f.size == 1) || ((f.size == 2) || (f.size == 4)))
 
+-- fields of the header
 abbrev pub fields_fit : List Field → Bool
 fields_fit [] = true
 fields_fit (f ∷ fs) = field_fits f && fields_fit fs

@@ -8,6 +8,7 @@ use super::numbers::{byte_at, half_at, word_at};
 use crate::layout::{Field, HEADER};
 
 /// The first fault of the header, the entry and the place of the sections not looked at.
+#[tactic(auto, unfolding(crate::specs::Refusal::header_checks))]
 pub(crate) fn header_fault(bytes: &[u8]) -> Option<ImageError>
     ensures { result ≡ first_fault (header_checks bytes.now) }
 {

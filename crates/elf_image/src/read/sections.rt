@@ -29,7 +29,7 @@ pub(crate) fn sizes_told(bytes: &[u8]) -> Sizes
 }
 
 /// The first fault of sections 0 to 2.
-#[tactic(auto, unfolding(crate::specs::Layout::no_section, crate::specs::Layout::text_section, crate::specs::Layout::data_section))]
+#[tactic(auto, unfolding(crate::specs::Refusal::fixed_checks, crate::specs::Layout::no_section, crate::specs::Layout::text_section, crate::specs::Layout::data_section))]
 pub(crate) fn fixed_fault(bytes: &[u8]) -> Option<ImageError>
     requires room { 116 ≤ length bytes.now }
     requires whole { told_at bytes.now + 240 ≤ length bytes.now }
@@ -61,6 +61,7 @@ pub(crate) fn fixed_fault(bytes: &[u8]) -> Option<ImageError>
 }
 
 /// The first fault of sections 3 to 5 and what they hold.
+#[tactic(auto, unfolding(crate::specs::Refusal::list_checks))]
 pub(crate) fn list_fault(bytes: &[u8]) -> Option<ImageError>
     requires room { 116 ≤ length bytes.now }
     requires whole { told_at bytes.now + 240 ≤ length bytes.now }

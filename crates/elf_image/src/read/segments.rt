@@ -9,6 +9,7 @@ use crate::bounds::is_in_text;
 use crate::layout::{Sizes, data_at, windows_at};
 
 /// The first fault of the segments and the entry.
+#[tactic(auto, unfolding(crate::specs::Refusal::segment_checks))]
 pub(crate) fn segment_fault(bytes: &[u8]) -> Option<ImageError>
     ensures { result ≡ first_fault (segment_checks bytes.now) }
 {
@@ -99,6 +100,7 @@ fn data_segment_holds(bytes: &[u8]) -> bool
 }
 
 /// The first fault of the place of the sections and of the file's size.
+#[tactic(auto, unfolding(crate::specs::Refusal::size_checks))]
 pub(crate) fn size_fault(bytes: &[u8]) -> Option<ImageError>
     requires room { 116 ≤ length bytes.now }
     requires text { (segment_sizes bytes.now).text ≤ 66060288 }
