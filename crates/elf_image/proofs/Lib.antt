@@ -3,3 +3,4 @@ pub mod Has
 pub mod Checks
 pub mod Refused
 pub mod Fields
+pub mod Written
