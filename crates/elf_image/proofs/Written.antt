@@ -1,5 +1,5 @@
 -- What is written is an image of its fields.
-use Rattle.std.proofs.Common.{◌≡◌, ℕ, zero, suc, ◌+◌, ◌-◌, ◌*◌, ◌/◌, ◌%◌, ◌^◌, ◌<◌, ◌≤◌, Bool, true, false, arith, ap, refl, sym, ◌∙◌, subst, List, [], ◌∷◌, ◌++◌, length, drop, append_assoc, append-nil, length-append, eqb-true, eq-eqb, leb-true, le-leb, ltb-true, add_assoc}
+use Rattle.std.proofs.Common.{◌≡◌, ℕ, zero, suc, ◌+◌, ◌-◌, ◌*◌, ◌/◌, ◌%◌, ◌^◌, ◌<◌, ◌≤◌, Bool, true, false, arith, ap, refl, sym, ◌∙◌, subst, List, [], ◌∷◌, ◌++◌, length, drop, append_assoc, append-nil, length-append, eqb-true, eq-eqb, leb-true, le-leb, ltb-true, add_assoc, get_or}
 use Rattle.std.specs.Prelude.{IsTrue, ◌&&◌, ◌==◌, nat_le, nat_lt, Option, Some, None}
 use Rattle.std.specs.List.{flat_map}
 use Rattle.std.proofs.lemmas.Grind.{common_steps}
@@ -307,3 +307,8 @@ image_written i f ht hi =
       windows = pairs_here whole i.windows r8 (windows_at s) a7 windows_fit;
       aliases = pairs_here whole i.aliases r9 (aliases_at s) a8 aliases_fit;
     }
+
+-- a list whose numbers have 32 bits
+pub are_words : (list : List ℕ) → ((i : ℕ) → get_or list i 0 < 2 ^ 32) → AreWords list
+are_words [] h = tt
+are_words (n ∷ ns) h = (h 0, are_words ns (λ i. h (suc i)))
