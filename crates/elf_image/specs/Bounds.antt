@@ -45,3 +45,7 @@ pub record Bounds (i : ImageFields) : Type 0 where
 pub record Fits (i : ImageFields) : Type 0 where
   pub bounds : Bounds i
   pub whole : sections_at (sizes_of i) + 240 ≤ 3221225472
+
+-- a register's number
+abbrev pub has_register : ℕ × ℕ → Bool
+has_register p = nat_le p.1 31

@@ -2,7 +2,8 @@
 ghost use Rattle.std.specs.Prelude.{◌≡◌, ◌≤◌, ◌<◌, ◌+◌, ◌-◌, ◌*◌, ◌++◌, length, OnOk, IfOk};
 ghost use Rattle.std.specs.List.{flat_map};
 ghost use Rattle.elf_image.specs.Bounds.{Fits, SizesFit};
-ghost use Rattle.elf_image.specs.Layout.{fields_of, sizes_of, half, word, pair, ident, zeros, front, back, header, segments, names, sections, image_bytes, data_at, sections_at};
+ghost use Rattle.elf_image.specs.Held.{IsImage};
+ghost use Rattle.elf_image.specs.Layout.{AreWords, fields_of, sizes_of, half, word, pair, ident, zeros, front, back, header, segments, names, sections, image_bytes, data_at, sections_at};
 
 use crate::Image;
 use crate::layout::{Sizes, aliases_at, data_at, names_at, sections_at, windows_at};
@@ -13,13 +14,21 @@ use std::alloc::{AllocError, Global};
 /// The bytes of a file that holds the image, with zeros between its parts. [`crate::fits`] tells which images it takes.
 pub fn write_image(alloc: Global, image: &Image) -> Result<Vec<u8>, OutOfMemory>
     requires { Fits (fields_of image.now) }
-    ensures { IfOk result (λ bytes. bytes.items ≡ image_bytes (fields_of image.now)) }
+    ensures bytes { IfOk result (λ bytes. bytes.items ≡ image_bytes (fields_of image.now)) }
+    ensures held { IfOk result (λ bytes. IsImage bytes.items (fields_of image.now)) }
 {
+    see_words(image.text.as_slice());
+    see_words(image.initial.as_slice());
     let mut out = Vec::new(alloc);
     put_front(&mut out, image)?;
     put_back(&mut out, image)?;
     Ok(out)
 }
+
+/// Tells proofs that words have 32 bits; it does nothing.
+fn see_words(words: &[u32])
+    ensures { AreWords words.now }
+{}
 
 /// How many words, windows and aliases the image has.
 fn sizes_of(image: &Image) -> Sizes

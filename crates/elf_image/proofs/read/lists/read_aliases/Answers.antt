@@ -1,0 +1,12 @@
+use Rattle.std.proofs.Common.{arith}
+use Rattle.elf_image.proofs.Told.{pairs_left, no_pairs_left, one_more, all_read}
+use Rattle.elf_image.proofs.read.lists.read_aliases.Goals as goal
+
+pub loop-i-preserved : goal.loop-i-preserved
+loop-i-preserved c = record {
+  read = one_more c.loop-i.aliases.items c.push.new.self.items _ _ _ c.pair_at.result c.in_ok-push.ensures.items (rw c.pair_at.ensures (pairs_left c.args.count c.loop-i.i c.loop-i.place c.args.bytes.now c.loop-i-test.true)) c.loop-i.invariant.read;
+  place = omega arith;
+}
+
+pub returns : goal.returns
+returns c = all_read _ _ _ (no_pairs_left c.args.count c.loop-i.i c.loop-i.place c.args.bytes.now c.loop-i-test.false) c.loop-i.invariant.read
