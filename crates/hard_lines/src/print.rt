@@ -1,6 +1,6 @@
 //! A word as a decimal number.
 
-ghost use Rattle.std.specs.Prelude.{◌≡◌, take, length};
+ghost use Rattle.std.specs.Prelude.{◌≡◌, ◌≤◌, take, length};
 ghost use Rattle.std.specs.Fmt.{signed_decimal};
 ghost use Rattle.hard_words.specs.Words.{signed};
 
@@ -11,6 +11,7 @@ use itoa::Buffer;
 pub fn print_word(word: u32, into: &mut [u8; 12]) -> usize
     ensures text { take result into.new ≡ signed_decimal (signed word) }
     ensures length { result ≡ length (signed_decimal (signed word)) }
+    ensures fits { result ≤ 11 }
 {
     let mut buffer = Buffer::new();
     let text = buffer.format(word.cast_signed()).as_bytes();
