@@ -6,16 +6,16 @@
 //! a branch into a delay slot (Kane and Heinrich, *MIPS RISC Architecture*, chapters 3 and 4).
 #![tactic(auto)]
 
+mod boot;
 mod change;
 mod effects;
 mod hazards;
 mod steps;
 
-pub use mips_isa::End;
-
 ghost use Rattle.std.specs.Prelude.{◌≡◌, ◌≤◌, length, slice_index};
 
 use hard_words::Words;
+pub use mips_isa::End;
 
 /// A machine with an image in it. Text begins at 0x00400000, memory at 0x10010000.
 ///

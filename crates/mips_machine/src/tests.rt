@@ -1,0 +1,409 @@
+//! What each instruction leaves, by the MIPS I manual (Kane and Heinrich, *MIPS RISC Architecture*,
+//! appendix A), and the hazards and ends of the machine. All expected values are worked out by hand.
+
+ghost use Rattle.std.specs.Prelude.{◌≤◌, length};
+
+use crate::{End, Machine};
+use elf_image::{Aliases, Image, Windows, fits};
+use hard_words::{Change, ChangeKind, Words};
+use std::alloc::Global;
+use std::process::Abort;
+use std::test::*;
+
+// A machine about to execute words that stand at 0x00400000, with one word of memory.
+fn laid(rt: &impl Abort, alloc: Global, words: &[u32], feed: &[u32]) -> Result<Machine, Fail> {
+    let image = Image {
+        entry: 0x0040_0000,
+        text: Words::from_vec(Vec::from_slice(alloc, words)?),
+        initial: Words::new(alloc),
+        memory_words: 1,
+        windows: Windows::new(alloc),
+        aliases: Aliases::new(alloc),
+    };
+    let ready = fits(&image) && feed.len() <= 1_000_000;
+    assert!(rt; ready);
+    let machine = Machine::boot(alloc, &image, Vec::from_slice(alloc, feed)?)?;
+    Ok(machine)
+}
+
+// Makes steps, and keeps what they put out.
+fn ran(alloc: Global, machine: &mut Machine, steps: u64) -> Result<Vec<u32>, Fail> {
+    let mut output = Vec::new(alloc);
+    for _ in 0..steps {
+        if let Some(word) = machine.step() {
+            output.push(word)?;
+        }
+    }
+    Ok(output)
+}
+
+#[test]
+fn puts_out_five(rt: HostRuntime) -> Result<(), Fail> {
+    let words = [
+        0x3C04_0000,
+        0x3484_0005,
+        0x3402_0001,
+        0x0000_000C,
+        0x3C04_0000,
+        0x3484_0000,
+        0x3402_0011,
+        0x0000_000C,
+    ];
+    let cases: [(u64, &[u32], Option<End>); 4] = [
+        (3, &[], None),
+        (4, &[5], None),
+        (7, &[5], None),
+        (8, &[5], Some(End::Exited(0))),
+    ];
+    for (steps, output, end) in cases {
+        let mut machine = laid(&rt, rt.alloc(), &words, &[])?;
+        let seen = ran(rt.alloc(), &mut machine, steps)?;
+        assert_eq!(rt; seen.as_slice(), output);
+        assert_eq!(rt; machine.end, end);
+    }
+    Ok(())
+}
+
+#[test]
+fn ends(rt: HostRuntime) -> Result<(), Fail> {
+    let first = 0x0040_0000;
+    let cases: [(&[u32], u64, End); 21] = [
+        (
+            &[0xFFFF_FFFF],
+            1,
+            End::Exception {
+                code: 10,
+                at: first,
+            },
+        ),
+        (&[0x8C04_0000], 1, End::Exception { code: 7, at: first }),
+        (&[0x8C04_0001], 1, End::Exception { code: 4, at: first }),
+        (&[0xAC04_0000], 1, End::Exception { code: 7, at: first }),
+        (&[0xAC04_0002], 1, End::Exception { code: 5, at: first }),
+        (
+            &[0x3C05_1001, 0xACA4_0004],
+            2,
+            End::Exception {
+                code: 7,
+                at: first + 4,
+            },
+        ),
+        (
+            &[0x3C05_1001, 0x8CA4_0000, 0x0080_3021],
+            3,
+            End::Hazard { at: first + 8 },
+        ),
+        (
+            &[0x3C05_1001, 0x8CA4_0000, 0x0000_000C],
+            3,
+            End::Hazard { at: first + 8 },
+        ),
+        (
+            &[0x1000_0001, 0x1000_0001],
+            2,
+            End::Hazard { at: first + 4 },
+        ),
+        (
+            &[0x1400_0001, 0x03E0_0008],
+            2,
+            End::Hazard { at: first + 4 },
+        ),
+        (
+            &[0x0000_2012, 0x0084_0018],
+            2,
+            End::Hazard { at: first + 4 },
+        ),
+        (
+            &[0x0000_2010, 0x0000_0000, 0x0084_001B],
+            3,
+            End::Hazard { at: first + 8 },
+        ),
+        (&[0x0000_004D], 1, End::Reported { code: 1, at: first }),
+        (&[0x0000_008D], 1, End::Reported { code: 2, at: first }),
+        (&[0x0000_018D], 1, End::Trapped(6)),
+        (&[0x0000_020D], 1, End::Trapped(8)),
+        (&[0x0000_000D], 1, End::Exception { code: 9, at: first }),
+        (&[0x0000_000C], 1, End::Exception { code: 8, at: first }),
+        (
+            &[0x0000_0000],
+            2,
+            End::Exception {
+                code: 6,
+                at: first + 4,
+            },
+        ),
+        (
+            &[0x2408_0002, 0x0100_0008, 0x0000_0000],
+            4,
+            End::Exception { code: 4, at: 2 },
+        ),
+        (&[0x2402_0005, 0x0000_000C], 2, End::Starved),
+    ];
+    for (words, steps, end) in cases {
+        let mut machine = laid(&rt, rt.alloc(), words, &[])?;
+        let _ = ran(rt.alloc(), &mut machine, steps)?;
+        assert_eq!(rt; machine.end, Some(end));
+        let at = machine.pc;
+        assert_eq!(rt; machine.step(), None);
+        assert_eq!(rt; machine.pc, at);
+    }
+    Ok(())
+}
+
+#[test]
+fn goes_on(rt: HostRuntime) -> Result<(), Fail> {
+    // Words, steps, registers 6 to 10 and 31, and the address of the next step.
+    let cases: [(&[u32], u64, [u32; 6], u32); 8] = [
+        // A taken branch: its delay slot is executed, the word behind it isn't.
+        (
+            &[0x1000_0002, 0x2408_0001, 0x2409_0002, 0x240A_0003],
+            3,
+            [0, 0, 1, 0, 3, 0],
+            0x0040_0010,
+        ),
+        // A branch that isn't taken.
+        (
+            &[0x1400_0002, 0x2408_0001, 0x2409_0002, 0x240A_0003],
+            3,
+            [0, 0, 1, 2, 0, 0],
+            0x0040_000C,
+        ),
+        // A branch back to itself, counted from its delay slot.
+        (
+            &[0x1000_FFFF, 0x2508_0001],
+            5,
+            [0, 0, 2, 0, 0, 0],
+            0x0040_0004,
+        ),
+        // A call and the return behind its delay slot.
+        (
+            &[
+                0x0C10_0004,
+                0x2408_0001,
+                0x2409_0002,
+                0x0000_018D,
+                0x03E0_0008,
+                0x240A_0003,
+            ],
+            5,
+            [0, 0, 1, 2, 3, 0x0040_0008],
+            0x0040_000C,
+        ),
+        // A jump.
+        (
+            &[0x0810_0003, 0x2408_0001, 0x2409_0002, 0x240A_0003],
+            3,
+            [0, 0, 1, 0, 3, 0],
+            0x0040_0010,
+        ),
+        // A store, a load, and a use two words later.
+        (
+            &[
+                0x3C05_1001,
+                0x2404_0007,
+                0xACA4_0000,
+                0x8CA6_0000,
+                0x0000_0000,
+                0x00C6_3821,
+            ],
+            6,
+            [7, 14, 0, 0, 0, 0],
+            0x0040_0018,
+        ),
+        // A load into register 0 stays without effect.
+        (
+            &[0x3C05_1001, 0x8CA0_0000, 0x2408_0005],
+            3,
+            [0, 0, 5, 0, 0, 0],
+            0x0040_000C,
+        ),
+        // A product, its high word, and two steps until the next product.
+        (
+            &[
+                0x2404_FFFF,
+                0x0084_0019,
+                0x0000_3010,
+                0x0000_0000,
+                0x0000_0000,
+                0x0084_0018,
+                0x0000_3812,
+            ],
+            7,
+            [0xFFFF_FFFE, 1, 0, 0, 0, 0],
+            0x0040_001C,
+        ),
+    ];
+    for (words, steps, registers, at) in cases {
+        let mut machine = laid(&rt, rt.alloc(), words, &[])?;
+        let _ = ran(rt.alloc(), &mut machine, steps)?;
+        assert_eq!(rt; machine.end, None);
+        for (r, value) in [6, 7, 8, 9, 10, 31].iter().zip(registers.iter()) {
+            assert_eq!(rt; machine.regs.as_slice().get(*r), Some(value));
+        }
+        assert_eq!(rt; machine.pc, at);
+    }
+    Ok(())
+}
+
+// A machine that has put a into register 4, b into register 5, and executed one word more.
+fn worked(rt: &impl Abort, alloc: Global, word: u32, a: u32, b: u32) -> Result<Machine, Fail> {
+    let words = [
+        0x3C04_0000 | a >> 16,
+        0x3484_0000 | a & 0xFFFF,
+        0x3C05_0000 | b >> 16,
+        0x34A5_0000 | b & 0xFFFF,
+        word,
+    ];
+    let mut machine = laid(rt, alloc, &words, &[])?;
+    let _ = ran(alloc, &mut machine, 5)?;
+    Ok(machine)
+}
+
+#[test]
+fn works_out(rt: HostRuntime) -> Result<(), Fail> {
+    // A word that writes register 6, registers 4 and 5, and register 6.
+    let cases: [(u32, u32, u32, u32); 43] = [
+        (0x0005_3040, 0, 0x8000_0001, 2),
+        (0x0005_37C0, 0, 3, 0x8000_0000),
+        (0x0005_3000, 0, 0xDEAD_BEEF, 0xDEAD_BEEF),
+        (0x0005_3042, 0, 0x8000_0001, 0x4000_0000),
+        (0x0005_37C2, 0, 0xFFFF_FFFF, 1),
+        (0x0005_3043, 0, 0x8000_0000, 0xC000_0000),
+        (0x0005_37C3, 0, 0x8000_0000, 0xFFFF_FFFF),
+        (0x0005_37C3, 0, 0x7FFF_FFFF, 0),
+        (0x0085_3004, 33, 1, 2),
+        (0x0085_3004, 32, 0x1234_5678, 0x1234_5678),
+        (0x0085_3006, 31, 0x8000_0000, 1),
+        (0x0085_3006, 0xFFFF_FFE0, 0x8000_0000, 0x8000_0000),
+        (0x0085_3007, 4, 0x8000_0000, 0xF800_0000),
+        (0x0085_3007, 36, 0x7FFF_FFFF, 0x07FF_FFFF),
+        (0x0085_3020, 0x7FFF_FFFF, 0x8000_0000, 0xFFFF_FFFF),
+        (0x0085_3021, 0xFFFF_FFFF, 2, 1),
+        (0x0085_3022, 0, 0x7FFF_FFFF, 0x8000_0001),
+        (0x0085_3022, 0x8000_0000, 0x8000_0000, 0),
+        (0x0085_3023, 0, 1, 0xFFFF_FFFF),
+        (0x0085_3024, 0xF0F0_F0F0, 0xFF00_FF00, 0xF000_F000),
+        (0x0085_3025, 0xF0F0_F0F0, 0xFF00_FF00, 0xFFF0_FFF0),
+        (0x0085_3026, 0xF0F0_F0F0, 0xFF00_FF00, 0x0FF0_0FF0),
+        (0x0085_3027, 0xF0F0_F0F0, 0xFF00_FF00, 0x000F_000F),
+        (0x0085_302A, 0x8000_0000, 0x7FFF_FFFF, 1),
+        (0x0085_302A, 0x7FFF_FFFF, 0x8000_0000, 0),
+        (0x0085_302A, 0xFFFF_FFFF, 0xFFFF_FFFF, 0),
+        (0x0085_302B, 0x8000_0000, 0x7FFF_FFFF, 0),
+        (0x0085_302B, 0x7FFF_FFFF, 0x8000_0000, 1),
+        (0x2086_8000, 0x0000_8000, 0, 0),
+        (0x2486_FFFF, 0, 0, 0xFFFF_FFFF),
+        (0x2486_7FFF, 0x7FFF_FFFF, 0, 0x8000_7FFE),
+        (0x2886_8000, 0xFFFF_7FFF, 0, 1),
+        (0x2886_8000, 0xFFFF_8000, 0, 0),
+        (0x2886_0000, 0x8000_0000, 0, 1),
+        (0x2C86_FFFF, 0xFFFF_FFFE, 0, 1),
+        (0x2C86_FFFF, 0xFFFF_FFFF, 0, 0),
+        (0x2C86_7FFF, 0x0000_8000, 0, 0),
+        (0x3086_FFFF, 0x1234_ABCD, 0, 0x0000_ABCD),
+        (0x3486_8000, 0x1234_0000, 0, 0x1234_8000),
+        (0x3886_FFFF, 0xFFFF_FFFF, 0, 0xFFFF_0000),
+        (0x3C06_8000, 0, 0, 0x8000_0000),
+        (0x0085_0021, 1, 2, 0),
+        (0x0000_3021, 1, 2, 0),
+    ];
+    for (word, a, b, value) in cases {
+        let machine = worked(&rt, rt.alloc(), word, a, b)?;
+        assert_eq!(rt; machine.end, None);
+        assert_eq!(rt; machine.regs.as_slice().get(6), Some(&value));
+        assert_eq!(rt; machine.regs.as_slice().get(0), Some(&0));
+    }
+    // Sums and differences that don't fit.
+    let cases = [
+        (0x0085_3020, 0x7FFF_FFFF, 1),
+        (0x0085_3020, 0x8000_0000, 0xFFFF_FFFF),
+        (0x0085_3022, 0x8000_0000, 1),
+        (0x0085_3022, 0, 0x8000_0000),
+        (0x2086_FFFF, 0x8000_0000, 0),
+        (0x2086_0001, 0x7FFF_FFFF, 0),
+    ];
+    for (word, a, b) in cases {
+        let machine = worked(&rt, rt.alloc(), word, a, b)?;
+        assert_eq!(rt;
+            machine.end,
+            Some(End::Exception {
+                code: 12,
+                at: 0x0040_0010
+            })
+        );
+        assert_eq!(rt; machine.regs.as_slice().get(6), Some(&0));
+    }
+    Ok(())
+}
+
+#[test]
+fn multiplies_and_divides(rt: HostRuntime) -> Result<(), Fail> {
+    // A word, registers 4 and 5, and HI and LO.
+    let cases: [(u32, u32, u32, u32, u32); 13] = [
+        (0x0085_0018, 0xFFFF_FFFF, 0xFFFF_FFFF, 0, 1),
+        (0x0085_0018, 0x8000_0000, 0x8000_0000, 0x4000_0000, 0),
+        (0x0085_0018, 0x8000_0000, 1, 0xFFFF_FFFF, 0x8000_0000),
+        (
+            0x0085_0018,
+            0x7FFF_FFFF,
+            0x8000_0000,
+            0xC000_0000,
+            0x8000_0000,
+        ),
+        (0x0085_0019, 0xFFFF_FFFF, 0xFFFF_FFFF, 0xFFFF_FFFE, 1),
+        (0x0085_0019, 0x8000_0000, 2, 1, 0),
+        (0x0085_001A, 0xFFFF_FFF9, 2, 0xFFFF_FFFF, 0xFFFF_FFFD),
+        (0x0085_001A, 7, 0xFFFF_FFFE, 1, 0xFFFF_FFFD),
+        (0x0085_001A, 0x8000_0000, 0xFFFF_FFFF, 0, 0x8000_0000),
+        (0x0085_001A, 5, 0, 5, 0xFFFF_FFFF),
+        (0x0085_001A, 0xFFFF_FFFB, 0, 0xFFFF_FFFB, 0xFFFF_FFFF),
+        (0x0085_001B, 0xFFFF_FFFF, 2, 1, 0x7FFF_FFFF),
+        (0x0085_001B, 9, 0, 9, 0xFFFF_FFFF),
+    ];
+    for (word, a, b, hi, lo) in cases {
+        let machine = worked(&rt, rt.alloc(), word, a, b)?;
+        assert_eq!(rt; machine.end, None);
+        assert_eq!(rt; machine.hi, hi);
+        assert_eq!(rt; machine.lo, lo);
+    }
+    Ok(())
+}
+
+#[test]
+fn takes_the_feed_and_changes(rt: HostRuntime) -> Result<(), Fail> {
+    let words = [
+        0x2402_0005,
+        0x0000_000C,
+        0x1000_0002,
+        0x2408_0001,
+        0x2409_0002,
+        0x240A_0003,
+    ];
+    let mut machine = laid(&rt, rt.alloc(), &words, &[9, 8])?;
+    let _ = ran(rt.alloc(), &mut machine, 2)?;
+    assert_eq!(rt; machine.regs.as_slice().get(2), Some(&9));
+    assert_eq!(rt; machine.fed, 1);
+    machine.apply(Change {
+        step: 2,
+        kind: ChangeKind::Flip { reg: 2, bit: 31 },
+    });
+    machine.apply(Change {
+        step: 2,
+        kind: ChangeKind::Flip { reg: 0, bit: 3 },
+    });
+    assert_eq!(rt; machine.regs.as_slice().get(2), Some(&0x8000_0009));
+    assert_eq!(rt; machine.regs.as_slice().get(0), Some(&0));
+    let divert = Change {
+        step: 2,
+        kind: ChangeKind::Divert { to: 0x0040_0010 },
+    };
+    machine.apply(divert);
+    assert_eq!(rt; machine.npc, 0x0040_000C);
+    let _ = ran(rt.alloc(), &mut machine, 1)?;
+    machine.apply(divert);
+    assert_eq!(rt; machine.npc, 0x0040_0010);
+    let _ = ran(rt.alloc(), &mut machine, 2)?;
+    assert_eq!(rt; machine.regs.as_slice().get(8), Some(&1));
+    assert_eq!(rt; machine.regs.as_slice().get(9), Some(&2));
+    Ok(())
+}
