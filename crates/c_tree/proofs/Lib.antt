@@ -1,3 +1,4 @@
 pub mod Greatest
 pub mod Views
 pub mod Small
+pub mod Related
