@@ -2,3 +2,4 @@ pub mod Greatest
 pub mod Views
 pub mod Small
 pub mod Related
+pub mod More

@@ -1,12 +1,11 @@
 -- What holds of each step of a run holds of the meaning of every program: a relation between runs that each step keeps.
-use Rattle.std.proofs.Common.{◌≡◌, ℕ, zero, suc, Bool, true, false, List, [], ◌∷◌, map, Option, Some, None, Result, Ok, Err, refl, sym, ap, ◌∙◌, subst, if◌then◌else◌, ◌==◌, not, nat_lt, length, slice_index_or}
+use Rattle.std.proofs.Common.{◌≡◌, ℕ, suc, Bool, true, false, List, [], ◌∷◌, map, Option, Some, None, Result, Ok, Err, refl, sym, subst, if◌then◌else◌, ◌==◌, not, nat_lt, length, slice_index_or}
 use Rattle.c_tree.specs.declared.run.Value.{Value}
 use Rattle.c_tree.specs.declared.run.EvalEnd.{EvalEnd}
 use Rattle.c_tree.specs.declared.run.EvalEnd.TheVariants.{Trapped, Starved}
 use Rattle.c_tree.specs.declared.run.Flow.{Flow}
 use Rattle.c_tree.specs.declared.run.Flow.TheVariants.{Normal, Breaks, Continues, Returns}
 use Rattle.c_tree.specs.declared.tree.BinaryOp.{BinaryOp}
-use Rattle.c_tree.specs.declared.tree.UnaryOp.{UnaryOp}
 use Rattle.c_tree.specs.declared.tree.Local.{Local}
 use Rattle.c_tree.specs.declared.tree.Function.{Function}
 use Rattle.c_tree.specs.declared.tree.TopItem.{TopItem}
@@ -15,8 +14,8 @@ use Rattle.c_tree.specs.declared.tree.Expr.TheOpen.{Expr-F}
 use Rattle.c_tree.specs.declared.tree.Stmt.{Stmt, roll-Stmt, map-Stmt, ind-Stmt, fold-roll-Stmt}
 use Rattle.c_tree.specs.declared.tree.Stmt.TheOpen.{Stmt-F}
 use Rattle.c_tree.specs.Operators.{value, is_unsigned_type, converted, truth, is_zero, common, operate, operate_unary, bumped}
-use Rattle.c_tree.specs.Run.{Entry, Object, Scalar, Array, Global, State, Outcome, Gives, Ends, Run, ◌>>=◌, ◌>>◌, pure, stop, lift, meaningless, innermost, find_global, local_or, designated, object_type, types_now, scalar, read, element, read_element, below_length, check_index, stored, put_innermost, change_global, put_scalar, put_element, write, write_element, entered, enter, open_scope, close_scope, open_call, close_call, without_first, spend, put_out, take_in}
-use Rattle.c_tree.specs.Meaning.{Calls, Place, Variable, Element, Meaning, fetch, put_at, store, indexed, values, called, binary, tested, logic, choose, assign, assign_by, assign_with, bump, no_place, expression_step, expression, Statement, if_normal, in_order, in_scope, value_if, initialise, declare, or_nothing, after_body, turns, loop, do_loop, test_or_true, next_or_nothing, for_loop, returned, statement_step, statement, function_named, returns_unsigned, bound, call_result, body_of, in_body, enter_function, Names, first_word, call_in_word, call_out_word, call_at, calls}
+use Rattle.c_tree.specs.Run.{Entry, Object, Scalar, Array, Global, State, Outcome, Gives, Ends, Run, ◌>>=◌, pure, stop, lift, innermost, find_global, local_or, designated, object_type, types_now, scalar, read, element, read_element, below_length, check_index, stored, put_innermost, change_global, put_scalar, put_element, write, write_element, entered, enter, open_scope, close_scope, open_call, close_call, without_first, spend, put_out, take_in}
+use Rattle.c_tree.specs.Meaning.{Calls, Place, Variable, Element, Meaning, fetch, put_at, store, indexed, values, binary, tested, logic, choose, assign_with, bump, no_place, expression_step, expression, Statement, if_normal, in_order, in_scope, value_if, initialise, declare, after_body, loop, test_or_true, next_or_nothing, returned, statement_step, statement, function_named, returns_unsigned, bound, call_result, body_of, in_body, enter_function, Names, first_word, call_at}
 
 -- what a change of the variables alone, or an end that it meets, makes of a state
 abbrev pub changed : {A : Type 0} → State → Result (A × List Global × List (List Entry)) EvalEnd → Outcome A

@@ -4,3 +4,4 @@ pub mod Meaning
 pub mod Sizes
 pub mod Shaped
 pub mod Small
+pub mod Laws

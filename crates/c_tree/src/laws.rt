@@ -1,8 +1,14 @@
 //! Laws of the meaning of C programs.
 
+ghost use Rattle.c_tree.specs.Laws.{MoreFuel};
 ghost use Rattle.c_tree.specs.Small.{SmallRuns};
 
 /// The smallest programs put out their numbers in order and exit with the last.
 pub fn small_runs()
     ensures { SmallRuns }
+{}
+
+/// More fuel never changes an end that stands, and only adds to the output of a run that is going.
+pub fn more_fuel()
+    ensures { MoreFuel }
 {}
