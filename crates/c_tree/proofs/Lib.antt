@@ -6,3 +6,4 @@ pub mod More
 pub mod Patterns
 pub mod Native
 pub mod NativeRun
+pub mod Examples

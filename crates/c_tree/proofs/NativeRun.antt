@@ -1,8 +1,8 @@
 -- The meaning of statements and whole programs by a recursion that computes, and that it is the meaning.
-use Rattle.std.proofs.Common.{◌≡◌, ℕ, zero, suc, Bool, false, List, [], ◌∷◌, map, flat_map, length, Option, Some, None, refl, sym, ap, ◌∙◌, subst, if◌then◌else◌, ◌==◌}
+use Rattle.std.proofs.Common.{◌≡◌, ℕ, zero, suc, Bool, List, [], ◌∷◌, map, flat_map, length, Option, Some, None, refl, sym, ap, ◌∙◌, subst, if◌then◌else◌, ◌==◌}
 use Rattle.c_tree.specs.declared.tree.Expr.{Expr}
 use Rattle.c_tree.specs.declared.tree.Local.{Local}
-use Rattle.c_tree.specs.declared.tree.Stmt.{Stmt, Empty, Value as Evaluate, Declare, Block', Break, Continue, Return, Held-Stmt-If-2, None', roll-Stmt, map-Stmt, ind-Stmt, fold-Stmt, fold-roll-Stmt, Row_of-Stmt, end_of-Stmt, more_of-Stmt, items-the_row-Stmt, items_hidden-the_row-Stmt-0}
+use Rattle.c_tree.specs.declared.tree.Stmt.{Stmt, Empty, Value as Evaluate, Declare, Block', Break, Continue, Return, Held-Stmt-If-2, None', roll-Stmt, map-Stmt, ind-Stmt, fold-roll-Stmt, Row_of-Stmt, end_of-Stmt, more_of-Stmt, items-the_row-Stmt, items_hidden-the_row-Stmt-0}
 use Rattle.c_tree.specs.declared.tree.Stmt.TheOpen.{Stmt-F}
 use Rattle.c_tree.specs.declared.tree.Stmt.TheBlock.{shape-the_row-Stmt-0, hidden-the_row-Stmt-0, shape-the_row-Stmt-1, hidden-the_row-Stmt-1}
 use Rattle.c_tree.specs.declared.tree.Stmt.TheVariants.{rolls-Empty, rolls-Value, rolls-Declare, rolls-Block, rolls-If, rolls-While, rolls-Do, rolls-For, rolls-Break, rolls-Continue, rolls-Return}
@@ -19,8 +19,8 @@ use Rattle.c_tree.specs.declared.run.Flow.{Flow}
 use Rattle.c_tree.specs.declared.run.Flow.TheVariants.{Normal, Breaks, Continues}
 use Rattle.c_tree.specs.declared.run.EvalEnd.TheVariants.{Going}
 use Rattle.c_tree.specs.Operators.{value, is_unsigned_type, is_zero}
-use Rattle.c_tree.specs.Run.{Object, Scalar, Array, Global, State, Outcome, Run, ◌>>=◌, ◌>>◌, pure, stop, meaningless, enter, open_call, close_call, spend}
-use Rattle.c_tree.specs.Meaning.{Calls, Meaning, expression, Statement, in_order, in_scope, initialise, value_if, declare, or_nothing, loop, do_loop, test_or_true, next_or_nothing, for_loop, returned, statement_step, statement, function_named, returns_unsigned, bound, call_result, body_of, Names, call_in_word, call_out_word, call_at, no_calls, word_or_zero, constant, padded, first_or_zero, initial, globals, CRan, ran, run_of}
+use Rattle.c_tree.specs.Run.{Object, Scalar, Array, Global, Run, ◌>>=◌, ◌>>◌, pure, stop, meaningless, enter, open_call, close_call, spend}
+use Rattle.c_tree.specs.Meaning.{Calls, Meaning, expression, Statement, in_order, in_scope, initialise, or_nothing, loop, do_loop, test_or_true, next_or_nothing, for_loop, returned, statement_step, statement, function_named, returns_unsigned, bound, call_result, body_of, Names, call_in_word, call_out_word, no_calls, word_or_zero, padded, first_or_zero, CRan, ran, run_of}
 use Rattle.c_tree.proofs.Native.{native, native_expression}
 use Rattle.c_tree.proofs.Patterns.{if', some', while', do', for'}
 
@@ -86,7 +86,7 @@ module _ (x : Expr → Meaning) where
         else (if name == names.out_word then call_out_word args
         else enter_by (record { is_unsigned = λ f. returns_unsigned (function_named f items); call = call_by names items n }) (function_named name items) args)
 
-    abbrev run_by : Names → Program → List ℕ → ℕ → CRan
+    abbrev pub run_by : Names → Program → List ℕ → ℕ → CRan
     run_by names program input fuel = ran (call_by names program.items (suc fuel) names.main [] (record { globals = flat_map globals_of_by program.items; scopes = []; input = input; output = []; fuel = fuel }))
 
 -- over the meaning they are the definitions

@@ -5,3 +5,4 @@ pub mod Sizes
 pub mod Shaped
 pub mod Small
 pub mod Laws
+pub mod Examples

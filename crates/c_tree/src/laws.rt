@@ -1,7 +1,13 @@
 //! Laws of the meaning of C programs.
 
+ghost use Rattle.c_tree.specs.Examples.{Examples};
 ghost use Rattle.c_tree.specs.Laws.{MoreFuel};
 ghost use Rattle.c_tree.specs.Small.{SmallRuns};
+
+/// Each of the examples runs as it says: a few programs for every rule of the language.
+pub fn examples_hold()
+    ensures { Examples }
+{}
 
 /// The smallest programs put out their numbers in order and exit with the last.
 pub fn small_runs()
