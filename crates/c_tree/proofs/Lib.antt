@@ -7,3 +7,5 @@ pub mod Patterns
 pub mod Native
 pub mod NativeRun
 pub mod Examples
+pub mod Output
+pub mod Levels

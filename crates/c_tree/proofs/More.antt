@@ -166,13 +166,7 @@ module _ (test test' : Run Value) (next next' : Run (Unit {0})) (body body' : Ru
 
 pub more_kept : IsKept More
 more_kept = record {
-  on_pure = more_pure;
-  on_stop = more_stop;
-  on_then = more_then;
-  on_variables = more_variables;
-  on_put_out = more_put_out;
-  on_take_in = more_take_in;
-  on_spend = more_spend;
+  steps = record { on_pure = more_pure; on_stop = more_stop; on_then = more_then; on_variables = more_variables; on_put_out = more_put_out; on_take_in = more_take_in; on_spend = more_spend };
   on_loop = more_loop;
 }
 

@@ -7,7 +7,7 @@ mod run;
 mod sizes;
 mod tree;
 
-pub use laws::{examples_hold, more_fuel, small_runs};
+pub use laws::{examples_hold, levels_agree, more_fuel, output_is_added, small_runs};
 pub use run::{EvalEnd, Flow, Value};
 pub use sizes::{depth, nodes};
 pub use tree::{
