@@ -1,2 +1,11 @@
+pub mod Greatest
 pub mod Views
 pub mod Small
+pub mod Related
+pub mod More
+pub mod Patterns
+pub mod Native
+pub mod NativeRun
+pub mod Examples
+pub mod Output
+pub mod Levels

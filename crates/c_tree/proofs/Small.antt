@@ -1,20 +1,17 @@
 -- What the smallest programs do.
-use Rattle.std.proofs.Common.{◌≡◌, ℕ, suc, Bool, false, List, [], ◌∷◌, ◌++◌, map, Option, Some, None, refl, sym, ap, ◌∙◌, subst, append_assoc, append-nil}
+use Rattle.std.proofs.Common.{◌≡◌, ℕ, suc, Bool, List, [], ◌∷◌, ◌++◌, map, Option, Some, None, refl, ap, ◌∙◌, subst, append_assoc, append-nil}
 use Rattle.c_tree.specs.declared.tree.Expr.{Expr, Call, roll-Expr, map-Expr, ind-Expr, fold-roll-Expr}
 use Rattle.c_tree.specs.declared.tree.Expr.TheOpen.{Expr-F}
-use Rattle.c_tree.specs.declared.tree.Stmt.{Stmt, Value as Evaluate, Return}
+use Rattle.c_tree.specs.declared.tree.Stmt.{Stmt}
 use Rattle.c_tree.specs.declared.tree.Ty.TheVariants.{Int}
 use Rattle.c_tree.specs.declared.tree.TopItem.{TopItem}
 use Rattle.c_tree.specs.declared.tree.TopItem.TheVariants as item
-use Rattle.c_tree.specs.declared.tree.Program.{Program}
-use Rattle.c_tree.specs.declared.run.Value.{Value}
-use Rattle.c_tree.specs.declared.run.Flow.{Flow}
 use Rattle.c_tree.specs.declared.run.Flow.TheVariants.{Normal, Returns}
 use Rattle.c_tree.specs.declared.run.EvalEnd.TheVariants.{Exited, Going}
 use Rattle.c_tree.specs.Operators.{value}
-use Rattle.c_tree.specs.Run.{State, Outcome, Gives, Ends, Run, and_then, pure}
-use Rattle.c_tree.specs.Meaning.{Calls, Meaning, expression, expression_step, Statement, statement, in_order, in_body, call_result, Names, source_names, calls, call_at, c_run, ran, first_state}
-use Rattle.c_tree.specs.Small.{literal, literal_step, IsOutput, Outputs, IsReturn, SmallProgram, SmallRuns}
+use Rattle.c_tree.specs.Run.{State, Gives}
+use Rattle.c_tree.specs.Meaning.{Calls, Meaning, expression, expression_step, statement, in_order, source_names, calls, call_at, ran, first_state}
+use Rattle.c_tree.specs.Small.{literal, literal_step, IsOutput, Outputs, IsReturn, SmallRuns}
 use Rattle.c_tree.proofs.Views.{expression-Call, statement-Value, statement-Return}
 
 -- an expression with this word is a constant
@@ -102,6 +99,7 @@ module _ (numbers : List ℕ) (last : ℕ) (outputs : List Stmt) (end : Stmt) (a
       rw k.1 refl
 
 pub small : SmallRuns
-small numbers last program input p =
-    (ap (λ is. ran (call_at source_names is 1 0 [] (first_state is input 0))) p.is ∙ starved numbers last p.outputs p.end p.at p.puts_out p.returns input,
-     λ fuel. ap (λ is. ran (call_at source_names is (suc (suc fuel)) 0 [] (first_state is input (suc fuel)))) p.is ∙ fed numbers last p.outputs p.end p.at p.puts_out p.returns input fuel)
+small numbers last program input p = (
+  ap (λ is. ran (call_at source_names is 1 0 [] (first_state is input 0))) p.is ∙ starved numbers last p.outputs p.end p.at p.puts_out p.returns input,
+  λ fuel. ap (λ is. ran (call_at source_names is (suc (suc fuel)) 0 [] (first_state is input (suc fuel)))) p.is ∙ fed numbers last p.outputs p.end p.at p.puts_out p.returns input fuel,
+)

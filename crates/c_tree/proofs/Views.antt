@@ -1,12 +1,9 @@
 -- The meaning of an expression and of a statement at each constructor, as contracts see them.
-use Rattle.std.proofs.Common.{◌≡◌, ℕ, Bool, List, map, Option, Some, None, sym, ap, ◌∙◌}
-use Rattle.c_tree.specs.declared.tree.BinaryOp.{BinaryOp}
-use Rattle.c_tree.specs.declared.tree.UnaryOp.{UnaryOp}
-use Rattle.c_tree.specs.declared.tree.Local.{Local}
-use Rattle.c_tree.specs.declared.tree.Expr.{Expr, Literal, Name, Index, Call, Unary, Binary, Logic, Choose, Assign, Bump, Comma, Paren, fold-roll-Expr}
+use Rattle.std.proofs.Common.{◌≡◌, ℕ, List, map, Option, sym, ap, ◌∙◌}
+use Rattle.c_tree.specs.declared.tree.Expr.{Expr, Call, fold-roll-Expr}
 use Rattle.c_tree.specs.declared.tree.Expr.TheOpen.{Expr-F}
-use Rattle.c_tree.specs.declared.tree.Expr.TheVariants.{rolls-Literal, rolls-Name, rolls-Index, rolls-Call, rolls-Unary, rolls-Binary, rolls-Logic, rolls-Choose, rolls-Assign, rolls-Bump, rolls-Comma, rolls-Paren}
-use Rattle.c_tree.specs.declared.tree.Stmt.{Stmt, Value, Return, fold-roll-Stmt}
+use Rattle.c_tree.specs.declared.tree.Expr.TheVariants.{rolls-Call}
+use Rattle.c_tree.specs.declared.tree.Stmt.{Value, Return, fold-roll-Stmt}
 use Rattle.c_tree.specs.declared.tree.Stmt.TheOpen.{Stmt-F}
 use Rattle.c_tree.specs.declared.tree.Stmt.TheVariants.{rolls-Value, rolls-Return}
 use Rattle.c_tree.specs.Meaning.{Meaning, expression, expression_step, Statement, statement, statement_step}

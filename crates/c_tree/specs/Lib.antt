@@ -4,3 +4,5 @@ pub mod Meaning
 pub mod Sizes
 pub mod Shaped
 pub mod Small
+pub mod Laws
+pub mod Examples

@@ -1,7 +1,6 @@
 -- What the expressions, the statements and the whole programs of the C subset mean, by ISO/IEC 9899:1999. Where the standard leaves the
 -- order of evaluation open, operands, arguments and initialisers are evaluated from left to right.
 use Rattle.std.specs.Prelude.{ℕ, zero, suc, Bool, true, false, not, ◌&&◌, if◌then◌else◌, ◌==◌, List, [], ◌∷◌, ◌++◌, map, find, flat_map, length, Option, Some, None}
-use Rattle.c_tree.specs.declared.tree.Ty.{Ty}
 use Rattle.c_tree.specs.declared.tree.BinaryOp.{BinaryOp}
 use Rattle.c_tree.specs.declared.tree.Expr.{Expr, fold-Expr}
 use Rattle.c_tree.specs.declared.tree.Expr.TheOpen.{Expr-F}

@@ -1,5 +1,5 @@
 -- What every tree of a source has beyond its types: where `void` and declarations stand, and how many initialisers there are.
-use Rattle.std.specs.Prelude.{ℕ, Bool, true, false, not, ◌&&◌, List, [], ◌∷◌, map, Option, Some, None, IsTrue}
+use Rattle.std.specs.Prelude.{ℕ, Bool, true, false, not, ◌&&◌, List, [], ◌∷◌, Option, Some, None, IsTrue}
 use Rattle.c_tree.specs.declared.tree.Ty.{Ty}
 use Rattle.c_tree.specs.declared.tree.Ty.TheVariants.{Int, Unsigned, Void}
 use Rattle.c_tree.specs.declared.tree.Expr.{Expr}

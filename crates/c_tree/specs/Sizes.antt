@@ -9,7 +9,6 @@ use Rattle.c_tree.specs.declared.tree.Shape.{Shape}
 use Rattle.c_tree.specs.declared.tree.Shape.TheVariants as shape
 use Rattle.c_tree.specs.declared.tree.GlobalVar.{GlobalVar}
 use Rattle.c_tree.specs.declared.tree.Param.{Param}
-use Rattle.c_tree.specs.declared.tree.Function.{Function}
 use Rattle.c_tree.specs.declared.tree.TopItem.{TopItem}
 use Rattle.c_tree.specs.declared.tree.TopItem.TheVariants as item
 use Rattle.c_tree.specs.declared.tree.Program.{Program}

@@ -6,7 +6,7 @@ mod laws;
 mod run;
 mod tree;
 
-pub use laws::small_runs;
+pub use laws::{examples_hold, levels_agree, more_fuel, output_is_added, small_runs};
 pub use run::{EvalEnd, Flow, Value};
 pub use tree::{
     BinaryOp, Expr, Function, GlobalVar, Local, Param, Program, Shape, Stmt, TopItem, Ty, UnaryOp,
