@@ -1,12 +1,11 @@
 -- Checks that all hold refuse nothing, and the other way round.
-use Rattle.std.proofs.Common.{◌≡◌, ℕ, zero, suc, ◌+◌, ◌-◌, ◌*◌, ◌<◌, ◌≤◌, Bool, true, false, arith, ap, refl, sym, ◌∙◌, List, [], ◌∷◌, length, eqb-true, eq-eqb}
-use Rattle.std.specs.Prelude.{IsTrue, ◌&&◌, ◌==◌, Option, Some, None, if◌then◌else◌}
+use Rattle.std.proofs.Common.{◌≡◌, ℕ, Bool, true, false, ap, refl, ◌∙◌, List, [], ◌∷◌}
+use Rattle.std.specs.Prelude.{IsTrue, ◌==◌, Option, Some, None, if◌then◌else◌}
 use Rattle.elf_image.specs.declared.layout.Field.{Field}
-use Rattle.elf_image.specs.declared.layout.TheConstants.{HEADER}
 use Rattle.elf_image.specs.declared.read.ImageError.{ImageError}
 use Rattle.elf_image.specs.declared.read.ImageError.TheVariants.{BadHeader}
 use Rattle.elf_image.specs.Held.{number_at, has_fields}
-use Rattle.elf_image.specs.Refusal.{Check, check, first_fault, first_of, field_checks, table_checks, header_checks, segment_checks, size_checks, fixed_checks, list_checks, refusal}
+use Rattle.elf_image.specs.Refusal.{Check, first_fault, first_of, field_checks, header_checks, segment_checks, size_checks, fixed_checks, list_checks, refusal}
 use Rattle.elf_image.proofs.Has.{both, and_left, and_right}
 
 -- each check holds

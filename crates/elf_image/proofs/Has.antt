@@ -1,6 +1,6 @@
 -- What a file has at an offset, and what is read there.
-use Rattle.std.proofs.Common.{◌≡◌, ℕ, zero, suc, ◌+◌, ◌-◌, ◌*◌, ◌<◌, ◌≤◌, Bool, true, false, arith, ap, refl, sym, ◌∙◌, subst, List, [], ◌∷◌, length, add_assoc, eqb-true, eq-eqb}
-use Rattle.std.specs.Prelude.{IsTrue, ◌&&◌, ◌==◌, Option, Some, None}
+use Rattle.std.proofs.Common.{◌≡◌, ℕ, zero, suc, ◌+◌, Bool, true, false, arith, ap, refl, sym, ◌∙◌, subst, List, [], ◌∷◌, length, eqb-true, eq-eqb}
+use Rattle.std.specs.Prelude.{IsTrue, ◌&&◌, ◌==◌, Option, Some}
 use Rattle.std.specs.List.{list_all}
 use Rattle.std.proofs.lemmas.Grind.{common_steps}
 use Rattle.elf_image.specs.Bounds.{has_register, is_window, all_ascending, is_after, is_in_text}

@@ -1,16 +1,13 @@
 -- Files that no check refuses hold what they tell, and files that hold an image are refused by no check.
-use Rattle.std.proofs.Common.{◌≡◌, ℕ, zero, suc, ◌+◌, ◌-◌, ◌*◌, ◌/◌, ◌^◌, ◌<◌, ◌≤◌, Bool, true, false, arith, ap, refl, sym, ◌∙◌, subst, List, [], ◌∷◌, length, eqb-true, eq-eqb, leb-true, le-leb}
-use Rattle.std.specs.Prelude.{IsTrue, ◌&&◌, ◌==◌, nat_le, Option, Some, None}
+use Rattle.std.proofs.Common.{◌≡◌, ℕ, ◌+◌, ◌*◌, ◌≤◌, arith, List, length, eqb-true, leb-true}
+use Rattle.std.specs.Prelude.{IsTrue, None}
 use Rattle.std.specs.List.{list_all}
-use Rattle.mips_isa.specs.Image.{ImageFields}
-use Rattle.elf_image.specs.declared.layout.Sizes.{Sizes}
-use Rattle.elf_image.specs.declared.layout.TheConstants.{HEADER}
-use Rattle.elf_image.specs.Layout.{sizes_of, data_at, windows_at, aliases_at, names_at, sections_at, text_segment, data_segment, no_section, text_section, data_section, windows_section, aliases_section, names_section, names}
-use Rattle.elf_image.specs.Bounds.{Bounds, SizesFit, is_in_text, is_window, is_alias, all_ascending, has_register}
-use Rattle.elf_image.specs.Held.{number_at, has, has_fields, flat, HasTables, IsImage}
-use Rattle.elf_image.specs.Refusal.{words_at, pairs_at, told_at, segment_sizes, sizes_told, fields_told, ends_before, header_checks, table_checks, segment_checks, size_checks, fixed_checks, list_checks, first_fault, refusal, text_segment_holds, data_segment_holds, windows_hold, aliases_hold, names_hold}
-use Rattle.elf_image.proofs.Has.{both, and_left, and_right, first_is, others_are, has_words, words_had, length-words_at, has_pairs, pairs_had, length-pairs_at, registers_of}
-use Rattle.elf_image.proofs.Checks.{AllHold, Passed, passed, not_refused, all_hold, no_fault, fields_hold, no_field_fault}
+use Rattle.elf_image.specs.Layout.{data_at, windows_at, aliases_at, names_at, text_segment, data_segment, windows_section, aliases_section, names_section, names}
+use Rattle.elf_image.specs.Bounds.{is_in_text, is_window, is_alias, all_ascending, has_register}
+use Rattle.elf_image.specs.Held.{number_at, has}
+use Rattle.elf_image.specs.Refusal.{pairs_at, told_at, segment_sizes, sizes_told, segment_checks, size_checks, list_checks, first_fault, refusal}
+use Rattle.elf_image.proofs.Has.{and_left, and_right, registers_of}
+use Rattle.elf_image.proofs.Checks.{AllHold, Passed, passed, all_hold}
 
 -- what the checks of the segments say
 pub record SegmentsTold (bytes : List ℕ) : Type 0 where

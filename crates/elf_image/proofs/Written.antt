@@ -1,6 +1,6 @@
 -- What is written is an image of its fields.
-use Rattle.std.proofs.Common.{◌≡◌, ℕ, zero, suc, ◌+◌, ◌-◌, ◌*◌, ◌/◌, ◌%◌, ◌^◌, ◌<◌, ◌≤◌, Bool, true, false, arith, ap, refl, sym, ◌∙◌, subst, List, [], ◌∷◌, ◌++◌, length, drop, append_assoc, append-nil, length-append, eqb-true, eq-eqb, leb-true, le-leb, ltb-true, add_assoc, get_or}
-use Rattle.std.specs.Prelude.{IsTrue, ◌&&◌, ◌==◌, nat_le, nat_lt, Option, Some, None}
+use Rattle.std.proofs.Common.{◌≡◌, ℕ, suc, ◌+◌, ◌-◌, ◌*◌, ◌/◌, ◌%◌, ◌^◌, ◌<◌, ◌≤◌, Bool, true, arith, ap, refl, sym, ◌∙◌, subst, List, [], ◌∷◌, ◌++◌, length, drop, append_assoc, append-nil, length-append, leb-true, ltb-true, add_assoc, get_or}
+use Rattle.std.specs.Prelude.{IsTrue, ◌&&◌, ◌==◌, nat_le, Option, Some, None}
 use Rattle.std.specs.List.{flat_map}
 use Rattle.std.proofs.lemmas.Grind.{common_steps}
 use Rattle.std.proofs.Math.Seq.{drop-append_seam}
@@ -11,8 +11,8 @@ use Rattle.elf_image.specs.declared.layout.Sizes.{Sizes}
 use Rattle.elf_image.specs.declared.layout.TheConstants.{HEADER}
 use Rattle.elf_image.specs.Layout.{AreWords, sizes_of, data_at, windows_at, aliases_at, names_at, sections_at, ident, kinds, places, counts, text_segment, data_segment, no_section, text_section, data_section, windows_section, aliases_section, names_section, names, half, word, pair, header, segments, sections, zeros, front, back, image_bytes}
 use Rattle.elf_image.specs.Bounds.{Bounds, SizesFit, Fits, is_in_text, is_window, is_alias, is_after, all_ascending}
-use Rattle.elf_image.specs.Held.{number_at, has, has_fields, flat, HasTables, IsImage}
-use Rattle.elf_image.proofs.Has.{both, and_left, and_right, has_more, has_none}
+use Rattle.elf_image.specs.Held.{number_at, has, has_fields, flat, IsImage}
+use Rattle.elf_image.proofs.Has.{and_left, and_right, has_more, has_none}
 
 -- From an offset on, a file is this list.
 pub record At (whole : List ℕ) (n : ℕ) (list : List ℕ) : Type 0 where

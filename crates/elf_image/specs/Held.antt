@@ -1,5 +1,5 @@
 -- Which fields a file holds.
-use Rattle.std.specs.Prelude.{ℕ, zero, suc, ◌≡◌, ◌+◌, ◌*◌, ◌==◌, ◌&&◌, Bool, true, false, IsTrue, List, [], ◌∷◌, length, drop}
+use Rattle.std.specs.Prelude.{ℕ, ◌≡◌, ◌+◌, ◌==◌, ◌&&◌, Bool, true, IsTrue, List, [], ◌∷◌, length, drop}
 use Rattle.byteorder.specs.Endian.{big_number}
 use Rattle.mips_isa.specs.Machine.{State}
 use Rattle.mips_isa.specs.Image.{ImageFields, boot_state}

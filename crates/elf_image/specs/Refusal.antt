@@ -1,5 +1,5 @@
 -- Why a file holds no image: the checks in order, each with its refusal.
-use Rattle.std.specs.Prelude.{ℕ, zero, suc, ◌≡◌, ◌+◌, ◌-◌, ◌*◌, ◌/◌, ◌%◌, ◌==◌, ◌&&◌, ◌||◌, nat_le, Bool, true, false, cond, if◌then◌else◌, List, [], ◌∷◌, ◌++◌, length, Option, Some, None}
+use Rattle.std.specs.Prelude.{ℕ, zero, suc, ◌+◌, ◌/◌, ◌%◌, ◌==◌, ◌&&◌, ◌||◌, nat_le, Bool, true, if◌then◌else◌, List, [], ◌∷◌, length, Option, Some, None}
 use Rattle.mips_isa.specs.Image.{ImageFields}
 use Rattle.elf_image.specs.declared.layout.Field.{Field}
 use Rattle.elf_image.specs.declared.layout.TheConstants.{HEADER}

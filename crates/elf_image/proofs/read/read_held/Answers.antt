@@ -1,9 +1,9 @@
-use Rattle.std.proofs.Common.{arith, ◌≤◌, ◌+◌, ◌*◌, length, List, ℕ, subst, sym}
+use Rattle.std.proofs.Common.{arith, ◌≤◌, ◌+◌, ◌*◌, length, subst, sym}
 use Rattle.std.specs.Prelude.{IsTrue}
 use Rattle.std.specs.List.{list_all}
 use Rattle.elf_image.specs.declared.layout.Sizes.{Sizes}
 use Rattle.elf_image.specs.Bounds.{has_register}
-use Rattle.elf_image.specs.Layout.{data_at, windows_at, aliases_at}
+use Rattle.elf_image.specs.Layout.{data_at, windows_at}
 use Rattle.elf_image.specs.Refusal.{pairs_at}
 use Rattle.elf_image.proofs.Refused.{ListsFit, lists_fit}
 use Rattle.elf_image.proofs.read.read_held.Goals as goal

@@ -1,7 +1,6 @@
 use Rattle.std.proofs.Common.{subst, sym}
 use Rattle.mips_isa.specs.Image.{ImageFields}
 use Rattle.elf_image.specs.Held.{IsImage}
-use Rattle.elf_image.specs.Layout.{fields_of}
 use Rattle.elf_image.proofs.Fields.{image_told, no_image}
 use Rattle.elf_image.proofs.read.read_image.Goals as goal
 

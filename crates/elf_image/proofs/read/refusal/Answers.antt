@@ -1,4 +1,4 @@
-use Rattle.std.proofs.Common.{arith, sym, ◌∙◌, ◌≤◌}
+use Rattle.std.proofs.Common.{arith, sym, ◌∙◌}
 use Rattle.elf_image.proofs.Checks.{first_refuses, later_refuses, whole_refusal}
 use Rattle.elf_image.proofs.Refused.{SegmentsTold, SizeTold, segments_told, size_told}
 use Rattle.elf_image.proofs.read.refusal.Goals as goal

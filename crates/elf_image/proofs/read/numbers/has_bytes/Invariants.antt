@@ -1,4 +1,4 @@
-use Rattle.std.proofs.Common.{◌≡◌, ◌+◌, ◌*◌, drop}
+use Rattle.std.proofs.Common.{◌≡◌, ◌+◌, drop}
 use Rattle.elf_image.specs.Held.{has}
 use Rattle.elf_image.proofs.read.numbers.has_bytes.Given as goal
 
