@@ -14,11 +14,12 @@ take_whole (x ∷ a) b n =
 
 take_front : (n : ℕ) (text more : List ℕ) → (k : ℕ) × (take n text ≡ take k (text ++ more))
 take_front n text more = elim (cases_lt (length text) n) [
-    inl past ↦
-        let all : length text ≤ n = omega arith in
-        let same : length text ≤ length text = omega arith in
-        (length text, take_all n text all ∙ (sym (take_all (length text) text same) ∙ sym (take-append-le (length text) text more same)))
-  | inr within ↦ (n, sym (take-append-le n text more within)) ]
+  | inl past ↦
+      let all : length text ≤ n = omega arith in
+      let same : length text ≤ length text = omega arith in
+      (length text, take_all n text all ∙ (sym (take_all (length text) text same) ∙ sym (take-append-le (length text) text more same)))
+  | inr within ↦ (n, sym (take-append-le n text more within))
+]
 
 -- a beginning of a beginning
 pub part_front : (old new text whole more : List ℕ) → whole ≡ text ++ more → Part old new text → Part old new whole

@@ -30,9 +30,9 @@ turn_stays : (c : Option Change) (n : ℕ) (s : State) (e : End) → s.end ≡ S
 turn_stays None n s e h = step_stays s e h
 turn_stays (Some c) n s e h =
     let pair : (diverted c.kind (step (flipped c.kind s)).0, (step (flipped c.kind s)).1) ≡ (s, None) =
-        ap (λ (t : State). let p : State × Option ℕ = (diverted c.kind (step t).0, (step t).1) in p) (flipped_stays c.kind s e h)
-        ∙ (ap (λ (t : State × Option ℕ). let p : State × Option ℕ = (diverted c.kind t.0, t.1) in p) (step_stays s e h)
-        ∙ ap (λ (t : State). let p : State × Option ℕ = (t, None) in p) (diverted_stays c.kind s e h)) in
+    ap (λ (t : State). let p : State × Option ℕ = (diverted c.kind (step t).0, (step t).1) in p) (flipped_stays c.kind s e h)
+    ∙ (ap (λ (t : State × Option ℕ). let p : State × Option ℕ = (diverted c.kind t.0, t.1) in p) (step_stays s e h)
+    ∙ ap (λ (t : State). let p : State × Option ℕ = (t, None) in p) (diverted_stays c.kind s e h)) in
     either (c.step == n) _ _ _ pair (step_stays s e h)
 
 run_stays : (s : State) (c : Option Change) (e : End) (n m : ℕ) → (run s c n).state.end ≡ Some e → run s c (n + m) ≡ run s c n

@@ -6,3 +6,6 @@ mod line;
 mod showing;
 
 pub use showing::replay;
+
+#[cfg(test)]
+mod tests;

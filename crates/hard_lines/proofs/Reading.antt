@@ -62,15 +62,21 @@ took_append a b old mid new s t = record {
 refused_behind : (a b : List Placed) (old mid : List ℕ) (e : LinesError) → Took a old mid → IsRefused b mid e → IsRefused (a ++ b) old e
 refused_behind a b old mid e t (inl memory) = inl memory
 refused_behind a b old mid e t (inr (others, first)) =
-    inr (others, faults-append (length old) a b
-      ∙ (ap (λ (l : List LinesError). l ++ faults (length old + length a) b) t.clean
-      ∙ (ap (λ (n : ℕ). faults n b) (sym (took_length a old mid t)) ∙ first)))
+    inr (
+      others,
+      faults-append (length old) a b
+          ∙ (ap (λ (l : List LinesError). l ++ faults (length old + length a) b) t.clean
+          ∙ (ap (λ (n : ℕ). faults n b) (sym (took_length a old mid t)) ∙ first)),
+    )
 
 refused_before : (a b : List Placed) (old : List ℕ) (e : LinesError) → IsRefused a old e → IsRefused (a ++ b) old e
 refused_before a b old e (inl memory) = inl memory
 refused_before a b old e (inr (others, first)) =
-    inr (others ++ faults (length old + length a) b, faults-append (length old) a b
-      ∙ ap (λ (l : List LinesError). l ++ faults (length old + length a) b) first)
+    inr (
+      others ++ faults (length old + length a) b,
+      faults-append (length old) a b
+          ∙ ap (λ (l : List LinesError). l ++ faults (length old + length a) b) first,
+    )
 
 -- of all words those before the rest are taken
 pub record Reading (all rest : List Placed) (old now : List ℕ) : Type 0 where
@@ -104,11 +110,13 @@ split_step : (p : ℕ → Bool) (xs : List ℕ) →
     ⊎ ((slice_split p xs ≡ take (position_or_len p xs) xs ∷ []) × (drop (position_or_len p xs + 1) xs ≡ []))
 split_step p xs =
     elim (cases_lt (position_or_len p xs) (length xs)) [
-      inl within ↦ inl (slice_split_first p xs 0 within)
-    | inr past ↦
-        let end : position_or_len p xs ≡ length xs = omega (arith, prefix_len-le-length (λ (x : ℕ). not (p x)) xs) in
-        inr (slice_split_none p xs (λ k d h. fails_before_first p xs k d (subst (λ (n : ℕ). k < n) (sym end) h)) ∙ ap (λ (l : List ℕ). l ∷ []) (sym (take_all _ xs past)),
-          drop_all (position_or_len p xs + 1) xs (omega arith))
+      | inl within ↦ inl (slice_split_first p xs 0 within)
+      | inr past ↦
+          let end : position_or_len p xs ≡ length xs = omega (arith, prefix_len-le-length (λ (x : ℕ). not (p x)) xs) in
+          inr (
+            slice_split_none p xs (λ k d h. fails_before_first p xs k d (subst (λ (n : ℕ). k < n) (sym end) h)) ∙ ap (λ (l : List ℕ). l ∷ []) (sym (take_all _ xs past)),
+            drop_all (position_or_len p xs + 1) xs (omega arith),
+          )
     ]
 
 line_step : (line : ℕ) (text : List ℕ) → placed_line line text ≡ placed_piece line (take (position_or_len is_blank text) text) ++ placed_line line (drop (position_or_len is_blank text + 1) text)
@@ -116,9 +124,9 @@ line_step line text =
     let end : ℕ = position_or_len is_blank text in
     let piece : List Placed = placed_piece line (take end text) in
     elim (split_step is_blank text) [
-      inl more ↦ ap (λ (l : List (List ℕ)). flat_map (placed_piece line) l) more
-    | inr none ↦ ap (λ (l : List (List ℕ)). flat_map (placed_piece line) l) none.0
-        ∙ ap (λ (l : List ℕ). piece ++ placed_line line l) (sym none.1)
+      | inl more ↦ ap (λ (l : List (List ℕ)). flat_map (placed_piece line) l) more
+      | inr none ↦ ap (λ (l : List (List ℕ)). flat_map (placed_piece line) l) none.0
+          ∙ ap (λ (l : List ℕ). piece ++ placed_line line l) (sym none.1)
     ]
 
 lines_step : (line : ℕ) (text : List ℕ) → placed_lines line (slice_split is_line_feed text) ≡ placed_line line (take (position_or_len is_line_feed text) text) ++ placed_lines (line + 1) (slice_split is_line_feed (drop (position_or_len is_line_feed text + 1) text))
@@ -126,9 +134,9 @@ lines_step line text =
     let end : ℕ = position_or_len is_line_feed text in
     let first : List Placed = placed_line line (take end text) in
     elim (split_step is_line_feed text) [
-      inl more ↦ ap (λ (l : List (List ℕ)). placed_lines line l) more
-    | inr none ↦ ap (λ (l : List (List ℕ)). placed_lines line l) none.0
-        ∙ ap (λ (l : List ℕ). first ++ placed_lines (line + 1) (slice_split is_line_feed l)) (sym none.1)
+      | inl more ↦ ap (λ (l : List (List ℕ)). placed_lines line l) more
+      | inr none ↦ ap (λ (l : List (List ℕ)). placed_lines line l) none.0
+          ∙ ap (λ (l : List ℕ). first ++ placed_lines (line + 1) (slice_split is_line_feed l)) (sym none.1)
     ]
 
 -- what was taken and what was refused of a whole text

@@ -113,7 +113,11 @@ fn piece_end(text: &[u8]) -> usize
 fn behind(text: &[u8], at: usize) -> &[u8]
     ensures { result.now ≡ drop (at + 1) text.now }
 {
-    if at < text.len() { &text[at + 1..] } else { &[] }
+    if at < text.len() {
+        &text[at + 1..]
+    } else {
+        &[]
+    }
 }
 
 fn is_blank(b: u8) -> bool

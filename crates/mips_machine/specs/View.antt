@@ -1,5 +1,6 @@
 -- What a machine stands for.
-use Rattle.mips_isa.specs.Machine.{State}
+use Rattle.std.specs.Prelude.{ℕ, true}
+use Rattle.mips_isa.specs.Machine.{State, moved}
 use Rattle.mips_machine.specs.declared.Machine.{Machine}
 
 -- the state of the definition of a step, field by field
@@ -19,3 +20,7 @@ state_of m = record {
   slot = m.slot;
   end = m.end;
 }
+
+-- the way into a delay slot, behind which a branch or a jump leads elsewhere
+abbrev pub jumped : State → ℕ → State
+jumped s to = record (moved s) { npc = to; slot = true }

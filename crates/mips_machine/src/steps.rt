@@ -3,14 +3,20 @@
 ghost use Rattle.std.specs.Prelude.{◌≡◌, ◌<◌, ◌≤◌, ◌+◌, ◌-◌, ◌/◌, ◌%◌, ◌^◌, length, slice_index, slice_set, nat_lt, nat_le, ◌&&◌, None, Some, Option, IfSome, if◌then◌else◌};
 ghost use Rattle.mips_isa.specs.Table.{IsInRange};
 ghost use Rattle.mips_isa.specs.Machine.{State, act_reg, planned, perform, step, moved, with_reg, service, load, store, is_hazard, in_memory, place, ended};
-ghost use Rattle.mips_machine.specs.View.{state_of};
+ghost use Rattle.mips_machine.specs.View.{state_of, jumped};
 
 use crate::Machine;
 use crate::hazards::{is_jump, is_product, reads_register};
 use mips_isa::{Act, End, Instr, decode};
 
+// Where the text begins.
+const TEXT_START: u32 = 0x0040_0000;
+
+// Where the memory begins.
+const MEMORY_START: u32 = 0x1001_0000;
+
 impl Machine {
-    /// Makes one step, and answers the word put out, if any.
+    /// Makes one step, and answers the word that it puts out, if any. After an end nothing changes.
     pub fn step(&mut self) -> Option<u32>
         ensures { step (state_of self.old) ≡ (state_of self.new, result) }
     {
@@ -30,10 +36,10 @@ impl Machine {
         if at % 4 != 0 {
             return Act::Stop(End::Exception { code: 4, at });
         }
-        if at < 0x0040_0000 {
+        if at < TEXT_START {
             return Act::Stop(End::Exception { code: 6, at });
         }
-        match self.text.as_slice().get(((at - 0x0040_0000) / 4) as usize) {
+        match self.text.as_slice().get(((at - TEXT_START) / 4) as usize) {
             None => Act::Stop(End::Exception { code: 6, at }),
             Some(word) => match decode(*word) {
                 None => Act::Stop(End::Exception { code: 10, at }),
@@ -48,6 +54,7 @@ impl Machine {
         }
     }
 
+    // Whether an instruction comes too soon.
     fn is_hazard(&self, instr: &Instr) -> bool
         ensures { result ≡ is_hazard (state_of self.now) instr.now }
     {
@@ -55,6 +62,7 @@ impl Machine {
             || ((is_product(instr) && 0 < self.quiet) || (is_jump(instr) && self.slot))
     }
 
+    // Carries out what the step does.
     fn perform(&mut self, act: Act) -> Option<u32>
         requires { act_reg act < 32 }
         ensures { perform act (state_of self.old) ≡ (state_of self.new, result) }
@@ -86,17 +94,13 @@ impl Machine {
                 None
             }
             Act::Go { to } => {
-                self.go_on();
-                self.npc = to;
-                self.slot = true;
+                self.go_to(to);
                 None
             }
             Act::Link { to } => {
                 let back = self.pc.wrapping_add(8);
-                self.go_on();
+                self.go_to(to);
                 self.write(31, back);
-                self.npc = to;
-                self.slot = true;
                 None
             }
             Act::Pass => {
@@ -123,6 +127,16 @@ impl Machine {
         self.slot = false;
     }
 
+    // The way to the delay slot, and from there to where a branch or a jump leads.
+    fn go_to(&mut self, to: u32)
+        ensures { state_of self.new ≡ jumped (state_of self.old) to }
+    {
+        self.go_on();
+        self.npc = to;
+        self.slot = true;
+    }
+
+    // A register gets a value; register 0 stays 0.
     pub(crate) fn write(&mut self, reg: u8, value: u32)
         requires { reg < 32 }
         ensures { state_of self.new ≡ with_reg (state_of self.old) reg value }
@@ -136,10 +150,10 @@ impl Machine {
     fn place(&self, address: u32) -> Option<usize>
         ensures { result ≡ (if in_memory (state_of self.now) address then Some (place address) else None) }
     {
-        if address < 0x1001_0000 {
+        if address < MEMORY_START {
             return None;
         }
-        let at = ((address - 0x1001_0000) / 4) as usize;
+        let at = ((address - MEMORY_START) / 4) as usize;
         if at < self.memory.len() {
             Some(at)
         } else {
@@ -147,6 +161,7 @@ impl Machine {
         }
     }
 
+    // A register gets the word at an address.
     fn load(&mut self, reg: u8, address: u32)
         requires { reg < 32 }
         ensures { load (state_of self.old) reg address ≡ (state_of self.new, None) }
@@ -169,6 +184,7 @@ impl Machine {
         }
     }
 
+    // The word at an address gets a value.
     fn store(&mut self, address: u32, value: u32)
         ensures { store (state_of self.old) address value ≡ (state_of self.new, None) }
     {
@@ -188,6 +204,8 @@ impl Machine {
         }
     }
 
+    // A call of the surroundings, by the number in register 2: 1 puts out a word, 5 asks for the
+    // next word of the feed, 17 ends the run.
     fn serve(&mut self) -> Option<u32>
         ensures { service (state_of self.old) ≡ (state_of self.new, result) }
     {

@@ -19,5 +19,5 @@ returns-clause-part g c =
     let R : Ran = run (state_of c.args.machine.now) c.args.change c.args.steps in
     let tail : end_line c.run_on.new.machine.end ≡ end_line R.state.end = ap (λ (q : State). end_line q.end) c.in_ok-run_on.ensures.state in
     on_err_weaker c.show_end.result (λ part t.
-        subst (λ (l : List ℕ). Part (g.O.Sink.written c.args.out.now) (g.O.Sink.written c.show_end.new.out) (word_lines R.output ++ l)) tail
-            (part_behind _ (g.O.Sink.written c.run_on.new.out) _ (word_lines R.output) _ (c.in_ok-run_on.ensures.ok t) (part (subst IsTrue (sym c.run_on.ensures.tells) t)))) c.show_end.ensures.part
+    subst (λ (l : List ℕ). Part (g.O.Sink.written c.args.out.now) (g.O.Sink.written c.show_end.new.out) (word_lines R.output ++ l)) tail
+    (part_behind _ (g.O.Sink.written c.run_on.new.out) _ (word_lines R.output) _ (c.in_ok-run_on.ensures.ok t) (part (subst IsTrue (sym c.run_on.ensures.tells) t)))) c.show_end.ensures.part

@@ -15,7 +15,7 @@ returns-then-is_some-clause-ok g c =
     let s : State = state_of c.args.machine.now in
     let le : c.loop-n.n ≤ c.args.steps = omega arith in
     let whole : run s c.args.change c.args.steps ≡ run s c.args.change c.loop-n.n =
-        ended_early s c.args.change c.loop-n.n c.args.steps (state_of c.loop-n.machine) _ le c.loop-n.invariant.state c.is_some.ensures c.if-is_some.true in
+    ended_early s c.args.change c.loop-n.n c.args.steps (state_of c.loop-n.machine) _ le c.loop-n.invariant.state c.is_some.ensures c.if-is_some.true in
     λ t. c.loop-n.invariant.written t ∙ ap (λ (r : Ran). g.O.Sink.written c.args.out.now ++ word_lines r.output) (sym whole)
 
 pub returns-then-is_some-clause-state : goal.returns-then-is_some-clause-state
@@ -23,7 +23,7 @@ returns-then-is_some-clause-state g c =
     let s : State = state_of c.args.machine.now in
     let le : c.loop-n.n ≤ c.args.steps = omega arith in
     let whole : run s c.args.change c.args.steps ≡ run s c.args.change c.loop-n.n =
-        ended_early s c.args.change c.loop-n.n c.args.steps (state_of c.loop-n.machine) _ le c.loop-n.invariant.state c.is_some.ensures c.if-is_some.true in
+    ended_early s c.args.change c.loop-n.n c.args.steps (state_of c.loop-n.machine) _ le c.loop-n.invariant.state c.is_some.ensures c.if-is_some.true in
     c.loop-n.invariant.state ∙ ap (λ (r : Ran). r.state) (sym whole)
 
 pub returns-in_err-show_word-clause-part : goal.returns-in_err-show_word-clause-part
@@ -34,14 +34,14 @@ returns-in_err-show_word-clause-part g c =
     let n : ℕ = c.loop-n.n in
     let le : n + 1 ≤ c.args.steps = omega arith in
     let lines : word_lines (run s ch (n + 1)).output ≡ word_lines (run s ch n).output ++ line_if_any c.turned-word.result =
-        more_lines s ch n (state_of c.loop-n.machine) (state_of c.turned-word.new.machine) c.turned-word.result i.state c.turned-word.ensures in
+    more_lines s ch n (state_of c.loop-n.machine) (state_of c.turned-word.new.machine) c.turned-word.result i.state c.turned-word.ensures in
     let longer : (more : List ℕ) × (word_lines (run s ch c.args.steps).output ≡ word_lines (run s ch (n + 1)).output ++ more) = lines_grow s ch (n + 1) c.args.steps le in
     let p = err_from_is_err_and c.from_residual.result c.from_residual.ensures.1 in
     rw p.1 (λ t.
-        let part : Part (g.O.Sink.written c.loop-n.out) (g.O.Sink.written c.show_word.new.out) (line_if_any c.turned-word.result) = c.in_err-show_word.ensures.part (subst IsTrue (sym i.tells) t) in
-        part_front _ _ (word_lines (run s ch (n + 1)).output) _ longer.0 longer.1
-            (subst (λ (l : List ℕ). Part (g.O.Sink.written c.args.out.now) (g.O.Sink.written c.show_word.new.out) l) (sym lines)
-                (part_behind _ (g.O.Sink.written c.loop-n.out) _ (word_lines (run s ch n).output) _ (i.written t) part)))
+    let part : Part (g.O.Sink.written c.loop-n.out) (g.O.Sink.written c.show_word.new.out) (line_if_any c.turned-word.result) = c.in_err-show_word.ensures.part (subst IsTrue (sym i.tells) t) in
+    part_front _ _ (word_lines (run s ch (n + 1)).output) _ longer.0 longer.1
+    (subst (λ (l : List ℕ). Part (g.O.Sink.written c.args.out.now) (g.O.Sink.written c.show_word.new.out) l) (sym lines)
+    (part_behind _ (g.O.Sink.written c.loop-n.out) _ (word_lines (run s ch n).output) _ (i.written t) part)))
 
 pub loop-n-preserved : goal.loop-n-preserved
 loop-n-preserved g c =
