@@ -7,7 +7,7 @@ ghost use Rattle.mips_machine.specs.View.{state_of};
 ghost use Rattle.fault_replay.specs.Show.{line_if_any, word_lines, end_line, shown};
 
 use crate::line;
-use hard_shelf::sink::{Sink, SinkFault};
+use hard_shelf::{Sink, SinkFault};
 use hard_words::{Change, ChangeKind};
 use mips_machine::{End, Machine};
 

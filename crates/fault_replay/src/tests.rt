@@ -4,7 +4,7 @@ ghost use Rattle.std.specs.Prelude.{true};
 
 use crate::replay;
 use elf_image::{Aliases, Image, Windows, fits};
-use hard_shelf::sink::{Sink, SinkFault};
+use hard_shelf::{Sink, SinkFault};
 use hard_words::{Change, ChangeKind, Words};
 use mips_machine::Machine;
 use std::alloc::Global;

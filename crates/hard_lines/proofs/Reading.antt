@@ -1,6 +1,6 @@
 -- Reading words one after another.
-use Rattle.std.proofs.Common.{◌≡◌, ℕ, suc, ◌+◌, ◌<◌, Bool, true, false, cond, List, [], ◌∷◌, ◌++◌, length, take, drop, arith, ap, ◌∙◌, refl, sym, subst, append_assoc, append-nil, length-append, add-zero, inl, inr}
-use Rattle.std.specs.Prelude.{◌⊎◌, ◌==◌, not, Option, Some, None, Ok, Err}
+use Rattle.std.proofs.Common.{◌≡◌, ℕ, suc, ◌+◌, ◌<◌, ◌≤◌, Bool, true, false, cond, List, [], ◌∷◌, ◌++◌, length, take, drop, arith, ap, ◌∙◌, refl, sym, subst, append_assoc, append-nil, length-append, add-zero, inl, inr}
+use Rattle.std.specs.Prelude.{◌⊎◌, ◌==◌, nat_lt, not, Option, Some, None, Ok, Err}
 use Rattle.std.specs.List.{slice_split, flat_map, position_or_len}
 use Rattle.std.proofs.lemmas.List.{take_all, drop_all}
 use Rattle.std.proofs.lemmas.List.Concat.{flat_map-append}
@@ -32,6 +32,10 @@ clean_word : (within : Bool) (line : ℕ) (value : Option ℕ) → cond within (
 clean_word true line None h = cc
 clean_word true line (Some v) h = refl
 clean_word false line value h = cc
+
+clean_past : (within : Bool) (line : ℕ) (value : Option ℕ) → within ≡ false → cond within (faults_of_value line value) (TooMany ∷ []) ≡ [] → ⊥
+clean_past true line value e h = cc
+clean_past false line value e h = cc
 
 -- words with no fault stand for as many numbers
 values_of_clean : (n : ℕ) (a : List Placed) → faults n a ≡ [] → length (values a) ≡ length a
@@ -146,6 +150,29 @@ inputs_taken text numbers t = rw (t.clean, t.appended) refl
 pub inputs_refused : (text : List ℕ) (e : LinesError) → IsRefused (placed text) [] e → (e ≡ OutOfMemory) ⊎ (inputs text ≡ Err e)
 inputs_refused text e (inl memory) = inl memory
 inputs_refused text e (inr (others, first)) = inr (rw first refl)
+
+-- a word behind too many is a fault
+too_many : (n : ℕ) (w : Placed) → 1000000 ≤ n → faults_at n w ≡ [] → ⊥
+too_many n w past h =
+    let above : nat_lt n 1000000 ≡ false = grind (arith, nat_tests) in
+    clean_past (nat_lt n 1000000) w.line (value_of w.text) above h
+
+-- words with no fault are few
+few_words : (n : ℕ) (words : List Placed) → n ≤ 1000000 → faults n words ≡ [] → n + length words ≤ 1000000
+few_words n [] within h = omega arith
+few_words n (w ∷ words) within h =
+    elim (cases_lt n 1000000) [
+      | inl below ↦
+          let more : n + 1 + length words ≤ 1000000 = few_words (n + 1) words (omega arith) (right_empty (faults_at n w) (faults (n + 1) words) h) in
+          omega (arith, more)
+      | inr past ↦ absurd (too_many n w past (left_empty (faults_at n w) (faults (n + 1) words) h))
+    ]
+
+-- the numbers of a whole text are few
+pub few_taken : (text numbers : List ℕ) → Took (placed text) [] numbers → length numbers ≤ 1000000
+few_taken text numbers t =
+    let within : 0 + length (placed text) ≤ 1000000 = few_words 0 (placed text) (omega arith) t.clean in
+    omega (arith, took_length (placed text) [] numbers t, within)
 
 -- the same steps, at the number that the code found
 pub line_step_at : (line : ℕ) (text : List ℕ) (end : ℕ) → end ≡ position_or_len is_blank text → placed_line line text ≡ placed_piece line (take end text) ++ placed_line line (drop (end + 1) text)

@@ -3,6 +3,8 @@ pub mod SmallWords
 pub mod Same
 pub mod Commands
 pub mod Compiled
-pub mod Outcomes
-pub mod Seen
+pub mod RefusalLines
 pub mod Failures
+pub mod Outcomes
+pub mod Causes
+pub mod Seen

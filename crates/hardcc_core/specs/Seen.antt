@@ -1,6 +1,8 @@
 -- The command that a value of the code stands for.
-use Rattle.hardcc_core.specs.declared.command.Compile.{Compile}
+use Rattle.hardcc_core.specs.declared.command.Command.{Command}
+use Rattle.hardcc_core.specs.declared.command.Command.TheVariants as code
 use Rattle.hardcc_core.specs.Commands as spec
 
-abbrev pub seen_command : Compile → spec.Command
-seen_command c = spec.Compile c.source.now c.image.now
+abbrev pub seen_command : Command → spec.Command
+seen_command (code.Compile words) = spec.Compile words.source.now words.image.now
+seen_command (code.Run words) = spec.Run words.image.now words.input.now words.steps

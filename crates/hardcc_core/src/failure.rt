@@ -1,63 +1,40 @@
 //! Why a command is not done, and what is said of it.
 
-ghost use Rattle.std.specs.Prelude.{◌≡◌, ◌≢◌, ◌⊎◌, ◌++◌, IsTrue};
-ghost use Rattle.std.specs.Option.{option_map};
+ghost use Rattle.std.specs.Prelude.{◌≡◌, ◌≢◌, ◌⊎◌, ◌++◌, [], IsTrue};
 ghost use Rattle.hard_shelf.specs.Outside.{Rose, AppendsPart};
 ghost use Rattle.hardcc_core.specs.Compiled.{refusal_line};
-ghost use Rattle.hardcc_core.specs.Failures.{line_of, said_of, status_of};
+ghost use Rattle.hardcc_core.specs.Failures.{line_of, status_of};
 
 use crate::compiler::Refusal;
+use crate::refusal_lines::{image_line, image_too_large, input_line, input_too_large};
+use elf_image::ImageError;
+use hard_lines::LinesError;
 use hard_shelf::Sink;
 
-// The statuses of a call of the tool.
+// The statuses of a call that reads its words.
 pub(crate) const DONE: u8 = 0;
 
 pub(crate) const USAGE: u8 = 2;
 
-const SINK_FAULT: u8 = 8;
+pub(crate) const SINK_FAULT: u8 = 8;
 
 /// Why a command is not done.
 #[derive(Clone, Copy, Debug, PartialEq, Eq)]
-pub(crate) enum Failure {
+pub enum Failure {
     /// The source is refused.
     Source(Refusal),
+    /// The image is refused.
+    Image(ImageError),
+    /// The image has more than 3,221,225,472 bytes.
+    LargeImage,
+    /// The input is refused.
+    Input(LinesError),
+    /// The input has more than 16,777,216 bytes.
+    LargeInput,
     /// The shelf failed, or a file is not there.
     Shelf,
     /// There was no memory.
     Memory,
-}
-
-impl Failure {
-    /// The status of a call that fails so.
-    fn status(self) -> u8
-        ensures { result ≡ status_of self }
-    {
-        match self {
-            Failure::Source(_) => 3,
-            Failure::Shelf => 7,
-            Failure::Memory => 9,
-        }
-    }
-
-    /// The line that says so; nothing is said of the shelf and of memory.
-    fn line(self) -> Option<&'static [u8]>
-        ensures { option_map (λ line. line.now) result ≡ said_of self }
-    {
-        match self {
-            Failure::Source(refusal) => Some(source_line(refusal)),
-            Failure::Shelf | Failure::Memory => None,
-        }
-    }
-}
-
-fn source_line(refusal: Refusal) -> &'static [u8]
-    ensures { result.now ≡ refusal_line refusal }
-{
-    match refusal {
-        Refusal::TooLong => b"source refused: TooLong\n",
-        Refusal::NotYet => b"source refused: NotYet\n",
-        Refusal::OutOfMemory => b"",
-    }
 }
 
 /// Says why a command is not done, and answers the status.
@@ -68,9 +45,24 @@ pub(crate) fn report<O: Sink>(out: &mut O, failure: Failure) -> u8
     ensures part { result ≡ 8 → IsTrue (O.tells out.old) → AppendsPart (O.written out.old) (O.written out.new) (line_of failure) }
     ensures silent { (status_of failure ≡ 7) ⊎ (status_of failure ≡ 9) → result ≡ status_of failure }
 {
-    match failure.line() {
-        None => failure.status(),
-        Some(line) => say(out, line, failure.status()),
+    match failure {
+        Failure::Source(refusal) => say(out, source_line(refusal), 3),
+        Failure::Image(error) => say(out, image_line(error).as_slice(), 4),
+        Failure::LargeImage => say(out, image_too_large(), 4),
+        Failure::Input(error) => say(out, input_line(error).as_slice(), 6),
+        Failure::LargeInput => say(out, input_too_large(), 6),
+        Failure::Shelf => 7,
+        Failure::Memory => 9,
+    }
+}
+
+fn source_line(refusal: Refusal) -> &'static [u8]
+    ensures { result.now ≡ refusal_line refusal }
+{
+    match refusal {
+        Refusal::TooLong => b"source refused: TooLong\n",
+        Refusal::NotYet => b"source refused: NotYet\n",
+        Refusal::OutOfMemory => b"",
     }
 }
 

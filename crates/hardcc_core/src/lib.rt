@@ -2,13 +2,17 @@
 #![tactic(auto)]
 
 mod command;
+mod compile_file;
 mod compiler;
 mod failure;
 mod laws;
+mod refusal_lines;
+mod run_file;
 mod small_text;
 mod tool;
 
 pub use compiler::{Refusal, compile};
+pub use failure::Failure;
 pub use laws::{small_same, straight_line};
 pub use small_text::small_text_laws;
 pub use tool::run_tool;
