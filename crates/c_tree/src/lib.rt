@@ -4,6 +4,9 @@
 
 mod laws;
 mod run;
+mod sizes;
+#[cfg(test)]
+mod tests;
 mod tree;
 
 pub use laws::{examples_hold, levels_agree, more_fuel, output_is_added, small_runs};
