@@ -11,6 +11,7 @@ mod tree;
 
 pub use laws::{examples_hold, levels_agree, more_fuel, output_is_added, small_runs};
 pub use run::{EvalEnd, Flow, Value};
+pub use sizes::{depth, nodes};
 pub use tree::{
     BinaryOp, Expr, Function, GlobalVar, Local, Param, Program, Shape, Stmt, TopItem, Ty, UnaryOp,
 };
