@@ -9,7 +9,6 @@
 mod boot;
 mod change;
 mod effects;
-mod hazards;
 mod steps;
 
 ghost use Rattle.std.specs.Prelude.{◌≡◌, ◌≤◌, length, slice_index};

@@ -6,7 +6,7 @@ ghost use Rattle.mips_isa.specs.Machine.{State, act_reg, planned, perform, step,
 ghost use Rattle.mips_machine.specs.View.{state_of, jumped};
 
 use crate::Machine;
-use crate::hazards::{is_jump, is_product, reads_register};
+use mips_isa::{is_jump, is_product, reads_register};
 use mips_isa::{Act, End, Instr, decode};
 
 // Where the text begins.
