@@ -1,0 +1,5 @@
+pub mod Bytes
+pub mod Constants
+pub mod Pieces
+pub mod Spelling
+pub mod Tokens

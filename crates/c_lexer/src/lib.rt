@@ -1,6 +1,13 @@
 //! The tokens of the C subset.
 #![tactic(auto)]
 
+mod byte;
+mod constant;
+mod error;
+mod meaning;
+mod piece;
+mod spelling;
 mod token;
 
+pub use error::LexError;
 pub use token::{Keyword, Punct, Token, TokenKind};

@@ -1,0 +1,95 @@
+-- Each reserved word and each punctuator stands in its table, so a test of the table holds of each.
+use Rattle.std.proofs.Common.{◌≡◌, ℕ, zero, suc, ◌<◌, ◌≤◌, Bool, true, false, ◌&&◌, List, [], ◌∷◌, length, get_or, codes, nat_le, nat_lt, nat_eq, not, ◌||◌, ◌==◌, refl, sym, ap, ◌∙◌, subst, arith, lit<}
+use Rattle.c_lexer.specs.declared.spelling.TheConstants.{KEYWORDS, PUNCTS}
+use Rattle.c_lexer.specs.declared.token.Keyword.{Keyword}
+use Rattle.c_lexer.specs.declared.token.Keyword.TheVariants as words
+use Rattle.c_lexer.specs.declared.token.Punct.{Punct}
+use Rattle.c_lexer.specs.declared.token.Punct.TheVariants as signs
+use Rattle.c_lexer.specs.Spelling.{word_spelling, sign_spelling}
+
+-- x stands at a place of the list, whatever is taken past the end
+pub record StandsIn {A : Type 0} (xs : List A) (x : A) : Type 0 where
+  pub place : ℕ
+  pub within : place < length xs
+  pub is : get_or xs place x ≡ x
+
+pub word_stands : (k : Keyword) → StandsIn KEYWORDS k
+word_stands words.Int = record { place = 0; within = lit< tt; is = refl }
+word_stands words.Unsigned = record { place = 1; within = lit< tt; is = refl }
+word_stands words.Signed = record { place = 2; within = lit< tt; is = refl }
+word_stands words.Void = record { place = 3; within = lit< tt; is = refl }
+word_stands words.Const = record { place = 4; within = lit< tt; is = refl }
+word_stands words.Static = record { place = 5; within = lit< tt; is = refl }
+word_stands words.If = record { place = 6; within = lit< tt; is = refl }
+word_stands words.Else = record { place = 7; within = lit< tt; is = refl }
+word_stands words.While = record { place = 8; within = lit< tt; is = refl }
+word_stands words.Do = record { place = 9; within = lit< tt; is = refl }
+word_stands words.For = record { place = 10; within = lit< tt; is = refl }
+word_stands words.Break = record { place = 11; within = lit< tt; is = refl }
+word_stands words.Continue = record { place = 12; within = lit< tt; is = refl }
+word_stands words.Return = record { place = 13; within = lit< tt; is = refl }
+word_stands words.Auto = record { place = 14; within = lit< tt; is = refl }
+word_stands words.Case = record { place = 15; within = lit< tt; is = refl }
+word_stands words.Char = record { place = 16; within = lit< tt; is = refl }
+word_stands words.Default = record { place = 17; within = lit< tt; is = refl }
+word_stands words.Double = record { place = 18; within = lit< tt; is = refl }
+word_stands words.Enum = record { place = 19; within = lit< tt; is = refl }
+word_stands words.Extern = record { place = 20; within = lit< tt; is = refl }
+word_stands words.Float = record { place = 21; within = lit< tt; is = refl }
+word_stands words.Goto = record { place = 22; within = lit< tt; is = refl }
+word_stands words.Inline = record { place = 23; within = lit< tt; is = refl }
+word_stands words.Long = record { place = 24; within = lit< tt; is = refl }
+word_stands words.Register = record { place = 25; within = lit< tt; is = refl }
+word_stands words.Restrict = record { place = 26; within = lit< tt; is = refl }
+word_stands words.Short = record { place = 27; within = lit< tt; is = refl }
+word_stands words.Sizeof = record { place = 28; within = lit< tt; is = refl }
+word_stands words.Struct = record { place = 29; within = lit< tt; is = refl }
+word_stands words.Switch = record { place = 30; within = lit< tt; is = refl }
+word_stands words.Typedef = record { place = 31; within = lit< tt; is = refl }
+word_stands words.Union = record { place = 32; within = lit< tt; is = refl }
+word_stands words.Volatile = record { place = 33; within = lit< tt; is = refl }
+
+pub sign_stands : (p : Punct) → StandsIn PUNCTS p
+sign_stands signs.Plus = record { place = 0; within = lit< tt; is = refl }
+sign_stands signs.Minus = record { place = 1; within = lit< tt; is = refl }
+sign_stands signs.Star = record { place = 2; within = lit< tt; is = refl }
+sign_stands signs.Slash = record { place = 3; within = lit< tt; is = refl }
+sign_stands signs.Percent = record { place = 4; within = lit< tt; is = refl }
+sign_stands signs.ShiftLeft = record { place = 5; within = lit< tt; is = refl }
+sign_stands signs.ShiftRight = record { place = 6; within = lit< tt; is = refl }
+sign_stands signs.Less = record { place = 7; within = lit< tt; is = refl }
+sign_stands signs.Greater = record { place = 8; within = lit< tt; is = refl }
+sign_stands signs.LessEqual = record { place = 9; within = lit< tt; is = refl }
+sign_stands signs.GreaterEqual = record { place = 10; within = lit< tt; is = refl }
+sign_stands signs.EqualEqual = record { place = 11; within = lit< tt; is = refl }
+sign_stands signs.NotEqual = record { place = 12; within = lit< tt; is = refl }
+sign_stands signs.And = record { place = 13; within = lit< tt; is = refl }
+sign_stands signs.Or = record { place = 14; within = lit< tt; is = refl }
+sign_stands signs.Caret = record { place = 15; within = lit< tt; is = refl }
+sign_stands signs.Tilde = record { place = 16; within = lit< tt; is = refl }
+sign_stands signs.Bang = record { place = 17; within = lit< tt; is = refl }
+sign_stands signs.AndAnd = record { place = 18; within = lit< tt; is = refl }
+sign_stands signs.OrOr = record { place = 19; within = lit< tt; is = refl }
+sign_stands signs.Equal = record { place = 20; within = lit< tt; is = refl }
+sign_stands signs.PlusEqual = record { place = 21; within = lit< tt; is = refl }
+sign_stands signs.MinusEqual = record { place = 22; within = lit< tt; is = refl }
+sign_stands signs.StarEqual = record { place = 23; within = lit< tt; is = refl }
+sign_stands signs.SlashEqual = record { place = 24; within = lit< tt; is = refl }
+sign_stands signs.PercentEqual = record { place = 25; within = lit< tt; is = refl }
+sign_stands signs.ShiftLeftEqual = record { place = 26; within = lit< tt; is = refl }
+sign_stands signs.ShiftRightEqual = record { place = 27; within = lit< tt; is = refl }
+sign_stands signs.AndEqual = record { place = 28; within = lit< tt; is = refl }
+sign_stands signs.OrEqual = record { place = 29; within = lit< tt; is = refl }
+sign_stands signs.CaretEqual = record { place = 30; within = lit< tt; is = refl }
+sign_stands signs.PlusPlus = record { place = 31; within = lit< tt; is = refl }
+sign_stands signs.MinusMinus = record { place = 32; within = lit< tt; is = refl }
+sign_stands signs.Question = record { place = 33; within = lit< tt; is = refl }
+sign_stands signs.Colon = record { place = 34; within = lit< tt; is = refl }
+sign_stands signs.Comma = record { place = 35; within = lit< tt; is = refl }
+sign_stands signs.Semicolon = record { place = 36; within = lit< tt; is = refl }
+sign_stands signs.OpenParen = record { place = 37; within = lit< tt; is = refl }
+sign_stands signs.CloseParen = record { place = 38; within = lit< tt; is = refl }
+sign_stands signs.OpenBrace = record { place = 39; within = lit< tt; is = refl }
+sign_stands signs.CloseBrace = record { place = 40; within = lit< tt; is = refl }
+sign_stands signs.OpenBracket = record { place = 41; within = lit< tt; is = refl }
+sign_stands signs.CloseBracket = record { place = 42; within = lit< tt; is = refl }
