@@ -6,6 +6,12 @@ use Rattle.c_lexer.specs.declared.token.Keyword.TheVariants as words
 use Rattle.c_lexer.specs.declared.token.Punct.{Punct}
 use Rattle.c_lexer.specs.declared.token.Punct.TheVariants as signs
 use Rattle.c_lexer.specs.Spelling.{word_spelling, sign_spelling}
+use Rattle.std.specs.List.{list_all}
+use Rattle.std.proofs.lemmas.Bool.{false≢true}
+use Rattle.std.proofs.Common.{◌≢◌, leb, eqb, leb-true}
+use Rattle.c_lexer.specs.declared.byte.Class.{Class}
+use Rattle.c_lexer.specs.declared.byte.Class.TheVariants.{Blank, Letter, Digit, Other}
+use Rattle.c_lexer.specs.Bytes.{class_of}
 
 -- x stands at a place of the list, whatever is taken past the end
 pub record StandsIn {A : Type 0} (xs : List A) (x : A) : Type 0 where
@@ -93,3 +99,62 @@ sign_stands signs.OpenBrace = record { place = 39; within = lit< tt; is = refl }
 sign_stands signs.CloseBrace = record { place = 40; within = lit< tt; is = refl }
 sign_stands signs.OpenBracket = record { place = 41; within = lit< tt; is = refl }
 sign_stands signs.CloseBracket = record { place = 42; within = lit< tt; is = refl }
+
+both : (a b : Bool) → (a && b) ≡ true → (a ≡ true) × (b ≡ true)
+both true b h = (refl, h)
+both false b h = (h, absurd (false≢true h))
+
+passes_at : {A : Type 0} (test : A → Bool) (xs : List A) (i : ℕ) (d : A) → i < length xs → list_all test xs ≡ true → test (get_or xs i d) ≡ true
+passes_at test [] i d lt h = absurd (omega arith)
+passes_at test (x ∷ xs) zero d lt h = (both (test x) (list_all test xs) h).0
+passes_at test (x ∷ xs) (suc i) d lt h = passes_at test xs i d (omega arith) (both (test x) (list_all test xs) h).1
+
+-- a test that each entry of the table passes holds of each punctuator
+pub each_sign : (test : Punct → Bool) → list_all test PUNCTS ≡ true → (p : Punct) → test p ≡ true
+each_sign test h p = let s = sign_stands p in subst (λ q. test q ≡ true) s.is (passes_at test PUNCTS s.place p s.within h)
+
+abbrev is_other : Class → Bool
+is_other Blank = false
+is_other Letter = false
+is_other Digit = false
+is_other Other = true
+
+other_is : (k : Class) → is_other k ≡ true → k ≡ Other
+other_is Blank h = absurd (false≢true h)
+other_is Letter h = absurd (false≢true h)
+other_is Digit h = absurd (false≢true h)
+other_is Other h = refl
+
+-- what the first byte and the size of a spelling say
+pub record IsSignLike (first size : ℕ) : Type 0 where
+  pub some : 1 ≤ size
+  pub few : size ≤ 3
+  pub other : class_of first ≡ Other
+  pub no_hash : first ≢ 35
+  pub slash : first ≡ 47 → size ≤ 2
+
+abbrev unlike_hash : ℕ → Bool
+unlike_hash first = not (eqb first 35)
+
+abbrev short_slash : ℕ → ℕ → Bool
+short_slash first size = not (eqb first 47) || leb size 2
+
+abbrev sign_like : ℕ → ℕ → Bool
+sign_like first size = leb 1 size && (leb size 3 && (is_other (class_of first) && (unlike_hash first && short_slash first size)))
+
+is_sign_like : (first size : ℕ) → sign_like first size ≡ true → IsSignLike first size
+is_sign_like first size h =
+    let a = both _ _ h in
+    let b = both _ _ a.1 in
+    let c = both _ _ b.1 in
+    let d = both _ _ c.1 in
+    record {
+      some = leb-true 1 size a.0;
+      few = leb-true size 3 b.0;
+      other = other_is _ c.0;
+      no_hash = λ e. false≢true (subst (λ x. unlike_hash x ≡ true) e d.0);
+      slash = λ e. leb-true size 2 (subst (λ x. short_slash x size ≡ true) e d.1);
+    }
+
+pub sign_spells : (p : Punct) → IsSignLike (get_or (sign_spelling p) 0 0) (length (sign_spelling p))
+sign_spells p = is_sign_like _ _ (each_sign (λ q. sign_like (get_or (sign_spelling q) 0 0) (length (sign_spelling q))) refl p)

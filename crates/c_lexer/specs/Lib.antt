@@ -1,5 +1,6 @@
 pub mod Bytes
 pub mod Constants
+pub mod Fronts
 pub mod Pieces
 pub mod Spelling
 pub mod Tokens
