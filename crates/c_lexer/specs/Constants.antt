@@ -1,6 +1,8 @@
 -- Integer constants (ISO/IEC 9899 clause 6.4.4.1, with no suffix but u and U, and with int and unsigned as the types).
-use Rattle.std.specs.Prelude.{ℕ, zero, suc, ◌≡◌, ◌≢◌, ◌≤◌, ◌<◌, ◌+◌, ◌-◌, ◌*◌, ◌&&◌, ◌⊎◌, List, [], ◌∷◌, ◌++◌, Bool, true, false, length, fold, codes, nat_le, nat_lt, if◌then◌else◌}
+use Rattle.std.specs.Prelude.{ℕ, ◌≡◌, ◌≢◌, ◌≤◌, ◌<◌, ◌+◌, ◌-◌, ◌*◌, ◌&&◌, ◌||◌, ◌==◌, ◌⊎◌, List, [], ◌∷◌, ◌++◌, Bool, true, false, length, drop, fold, slice_index, nat_le, nat_lt, if◌then◌else◌}
 use Rattle.c_lexer.specs.declared.constant.Base.{Base}
+use Rattle.c_lexer.specs.declared.constant.Constant.{Constant}
+use Rattle.c_lexer.specs.declared.constant.Constant.TheVariants.{NotOne, TooLarge, Fits}
 use Rattle.c_lexer.specs.declared.constant.Base.TheVariants.{Decimal, Octal, Hexadecimal}
 
 -- the number of digits that a base has
@@ -22,15 +24,35 @@ AreDigits base (b ∷ bs) = (digit_worth b < base) × AreDigits base bs
 abbrev pub worth : ℕ → List ℕ → ℕ
 worth base digits = fold (λ n b. base * n + digit_worth b) 0 digits
 
--- nothing, or one `u` or `U`
-abbrev pub IsSuffix : List ℕ → Type 0
-IsSuffix suffix = (suffix ≡ []) ⊎ (suffix ≡ codes "u") ⊎ (suffix ≡ codes "U")
+-- whether bytes are a suffix: nothing, or one `u` or `U`
+abbrev pub is_suffix : List ℕ → Bool
+is_suffix [] = true
+is_suffix (b ∷ []) = b == 117 || b == 85
+is_suffix (b ∷ c ∷ bs) = false
 
--- the bytes are a constant with these digits and this suffix: decimal from 1 to 9 on, octal from 0 on, hexadecimal behind `0x` or `0X`
-pub data IsConstant : List ℕ → Base → List ℕ → List ℕ → Type 0 where
-  decimal : {d : ℕ} {ds suffix : List ℕ} → d ≢ 48 → AreDigits 10 (d ∷ ds) → IsSuffix suffix → IsConstant (d ∷ ds ++ suffix) Decimal (d ∷ ds) suffix
-  octal : {ds suffix : List ℕ} → AreDigits 8 ds → IsSuffix suffix → IsConstant (48 ∷ ds ++ suffix) Octal (48 ∷ ds) suffix
-  hexadecimal : {x d : ℕ} {ds suffix : List ℕ} → (x ≡ 120) ⊎ (x ≡ 88) → AreDigits 16 (d ∷ ds) → IsSuffix suffix → IsConstant (48 ∷ x ∷ d ∷ ds ++ suffix) Hexadecimal (d ∷ ds) suffix
+-- how a constant of a base begins: hexadecimal with `0x` or `0X`, octal with `0`, decimal with no `0`
+abbrev pub HasMark : Base → List ℕ → Type 0
+HasMark Decimal run = slice_index run 0 ≢ 48
+HasMark Octal run = slice_index run 0 ≡ 48
+HasMark Hexadecimal run = (slice_index run 0 ≡ 48) × ((slice_index run 1 ≡ 120) ⊎ (slice_index run 1 ≡ 88))
+
+-- where the digits begin
+abbrev pub behind_mark : Base → List ℕ → List ℕ
+behind_mark Decimal run = run
+behind_mark Octal run = run
+behind_mark Hexadecimal run = drop 2 run
+
+-- digits of a base, one at least, and then a suffix
+pub record IsSplit (base : Base) (text digits suffix : List ℕ) : Type 0 where
+  pub joined : text ≡ digits ++ suffix
+  pub some : 0 < length digits
+  pub are_digits : AreDigits (radix base) digits
+  pub ends : is_suffix suffix ≡ true
+
+-- the bytes are a constant of this base with these digits and this suffix
+pub record IsConstant (run : List ℕ) (base : Base) (digits suffix : List ℕ) : Type 0 where
+  pub mark : HasMark base run
+  pub split : IsSplit base (behind_mark base run) digits suffix
 
 -- the greatest value that a constant of this base and suffix may have: that of int where it is decimal and has none, else that of unsigned
 abbrev pub greatest : Base → List ℕ → ℕ
@@ -43,3 +65,15 @@ greatest Hexadecimal suffix = 4294967295
 abbrev pub is_unsigned : List ℕ → ℕ → Bool
 is_unsigned [] value = nat_lt 2147483647 value
 is_unsigned (u ∷ us) value = true
+
+-- a constant of this base, digits and suffix has this value, which is in range
+pub record HasValue (base : Base) (digits suffix : List ℕ) (value : ℕ) (unsigned : Bool) : Type 0 where
+  pub worth_is : worth (radix base) digits ≡ value
+  pub fits : value ≤ greatest base suffix
+  pub unsigned_is : unsigned ≡ is_unsigned suffix value
+
+-- what a function says of a text that is split into digits and suffix in a given way, if in any
+abbrev pub Reads : (List ℕ → List ℕ → Base → Type 0) → Constant → Type 0
+Reads Splits NotOne = (base : Base) (digits suffix : List ℕ) → Splits digits suffix base → ⊥
+Reads Splits TooLarge = (base : Base) × (digits : List ℕ) × (suffix : List ℕ) × Splits digits suffix base × (greatest base suffix < worth (radix base) digits)
+Reads Splits (Fits value unsigned) = (base : Base) × (digits : List ℕ) × (suffix : List ℕ) × Splits digits suffix base × HasValue base digits suffix value unsigned

@@ -1,6 +1,6 @@
-//! Classes of bytes.
+//! Bytes, and what they may begin.
 
-ghost use Rattle.std.specs.Prelude.{◌≡◌};
+ghost use Rattle.std.specs.Prelude.{◌≡◌, ◌≤◌, drop, length};
 ghost use Rattle.c_lexer.specs.Bytes.{class_of, continues, is_space};
 
 /// What a byte may begin (ISO/IEC 9899 clause 5.2.1).
@@ -46,4 +46,12 @@ pub fn is_space(byte: u8) -> bool
     ensures { result ≡ is_space byte }
 {
     byte == 32 || byte == 9
+}
+
+/// The bytes of a text from a place on.
+pub fn rest_of(text: &[u8], at: usize) -> &[u8]
+    requires { at ≤ length text.now }
+    ensures { result.now ≡ drop at text.now }
+{
+    &text[at..]
 }

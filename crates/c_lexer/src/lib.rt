@@ -5,6 +5,7 @@ mod byte;
 mod constant;
 mod error;
 mod meaning;
+mod names;
 mod piece;
 mod spelling;
 mod token;
