@@ -1,3 +1,4 @@
 pub mod Tables
 pub mod Longest
 pub mod Splits
+pub mod Spelled

@@ -11,7 +11,7 @@ use Rattle.c_lexer.specs.Bytes.{class_of, continues, is_space}
 use Rattle.c_lexer.specs.Fronts.{IsFront, IsWordByte, IsLineByte, IsFirstClose, HasNoClose, MarksLine, SpellsSign, IsLongestSign}
 use Rattle.c_lexer.specs.Pieces.{HasForm, Begins, IsLongest, HasNoPiece, ClosesAt}
 use Rattle.c_lexer.specs.Spelling.{sign_spelling}
-use Rattle.c_lexer.proofs.Tables.{IsSignLike, sign_spells}
+use Rattle.c_lexer.proofs.Tables.{IsSignLike, sign_spells, one_sign}
 
 -- a front is no shorter than any front of bytes that pass
 pub front_covers : {Passes : ℕ → Type 0} {text : List ℕ} {size : ℕ} → IsFront Passes text size → (more : ℕ) → more ≤ length text → ((i : ℕ) → i < more → Passes (slice_index text i)) → more ≤ size
@@ -28,14 +28,15 @@ FirstOf kinds.Word k = k ≡ Letter
 FirstOf kinds.Digits k = k ≡ Digit
 FirstOf (kinds.Sign sign) k = k ≡ Other
 
--- what a punctuator at the front says of the first byte and the size
-pub sign_like : (text : List ℕ) (size : ℕ) (sign : Punct) → SpellsSign text size sign → IsSignLike (get_or text 0 0) size
+-- what a punctuator at the front says of the first bytes and the size
+pub sign_like : (text : List ℕ) (size : ℕ) (sign : Punct) → SpellsSign text size sign → IsSignLike (get_or text 0 0) (get_or (take size text) 1 0) size
 sign_like text size sign spells =
-    let like : IsSignLike (get_or (sign_spelling sign) 0 0) (length (sign_spelling sign)) = sign_spells sign in
+    let like = sign_spells sign in
     let sized : length (sign_spelling sign) ≡ size = ap length (sym spells.is) ∙ length-take-le size text spells.fits in
-    let like_here : IsSignLike (get_or (sign_spelling sign) 0 0) size = subst (IsSignLike (get_or (sign_spelling sign) 0 0)) sized like in
+    let like_here : IsSignLike (get_or (sign_spelling sign) 0 0) (get_or (sign_spelling sign) 1 0) size = subst (IsSignLike (get_or (sign_spelling sign) 0 0) (get_or (sign_spelling sign) 1 0)) sized like in
     let first : get_or (sign_spelling sign) 0 0 ≡ get_or text 0 0 = ap (λ s. get_or s 0 0) (sym spells.is) ∙ get_or-take size text 0 0 like_here.some in
-    subst (λ b. IsSignLike b size) first like_here
+    let second : get_or (sign_spelling sign) 1 0 ≡ get_or (take size text) 1 0 = ap (λ s. get_or s 1 0) (sym spells.is) in
+    subst (λ b. IsSignLike (get_or text 0 0) b size) second (subst (λ b. IsSignLike b (get_or (sign_spelling sign) 1 0) size) first like_here)
 
 spells_of : (text : List ℕ) (size : ℕ) (sign : Punct) (starts_line : Bool) → Begins starts_line text size (kinds.Sign sign) → SpellsSign text size sign
 spells_of text size sign starts_line h = record { fits = h.fits; is = h.form }
@@ -288,9 +289,113 @@ longest_of_one text sign three two h = record { sign = sign; kind_is = refl; spe
 
 pub no_sign : (text : List ℕ) → HasNoSign text 3 → HasNoSign text 2 → HasNoSign text 1 → (size : ℕ) (sign : Punct) → SpellsSign text size sign → ⊥
 no_sign text three two one size sign g =
-    let like : IsSignLike (get_or text 0 0) size = sign_like text size sign g in
+    let like : IsSignLike (get_or text 0 0) (get_or (take size text) 1 0) size = sign_like text size sign g in
     elim (cases_lt 2 size) [
       inl l ↦ three sign (at_size text size 3 sign (omega (arith, like.few)) g)
     | inr l ↦ elim (cases_lt 1 size) [
         inl k ↦ two sign (at_size text size 2 sign (omega arith) g)
       | inr k ↦ one sign (at_size text size 1 sign (omega (arith, like.some)) g) ] ]
+
+-- a piece has a byte
+pub has_byte : (s : Bool) (text : List ℕ) (size : ℕ) (kind : Kind) → Begins s text size kind → 0 < size
+has_byte s text size (kinds.Blank b) h = omega (arith, h.form.one)
+has_byte s text size kinds.LineComment h = omega (arith, h.form.two)
+has_byte s text size kinds.BlockComment h = omega (arith, h.form.ends)
+has_byte s text size kinds.OpenComment h = omega (arith, h.form.two)
+has_byte s text size kinds.LineMarker h = omega (arith, h.form.within)
+has_byte s text size kinds.Word h = h.form.some
+has_byte s text size kinds.Digits h = h.form.some
+has_byte s text size (kinds.Sign sign) h = (sign_like text size sign (spells_of text size sign s h)).some
+
+-- a punctuator is no comment and no line marker
+sign_no_comment : (s : Bool) (text : List ℕ) (size c : ℕ) (sign : Punct) → Begins s text size (kinds.Sign sign) → get_or text 0 0 ≡ 47 → 2 ≤ size → get_or text 1 0 ≡ c → c ≢ 61 → ⊥
+sign_no_comment s text size c sign h first two second other =
+    other (sym second ∙ sym (get_or-take size text 1 0 (omega arith)) ∙ (sign_like text size sign (spells_of text size sign s h)).after_slash first two)
+
+no_line : (s : Bool) (text : List ℕ) (size : ℕ) (sign : Punct) → Begins s text size (kinds.Sign sign) → Begins s text size kinds.LineComment → ⊥
+no_line s text size sign h g = sign_no_comment s text size 47 sign h g.form.first g.form.two g.form.second (λ e. absurd (omega arith))
+
+no_block : (s : Bool) (text : List ℕ) (size : ℕ) (sign : Punct) → Begins s text size (kinds.Sign sign) → Begins s text size kinds.BlockComment → ⊥
+no_block s text size sign h g = sign_no_comment s text size 42 sign h g.form.first (omega (arith, g.form.ends)) g.form.second (λ e. absurd (omega arith))
+
+no_open : (s : Bool) (text : List ℕ) (size : ℕ) (sign : Punct) → Begins s text size (kinds.Sign sign) → Begins s text size kinds.OpenComment → ⊥
+no_open s text size sign h g = sign_no_comment s text size 42 sign h g.form.first g.form.two g.form.second (λ e. absurd (omega arith))
+
+no_marker : (s : Bool) (text : List ℕ) (size : ℕ) (sign : Punct) → Begins s text size (kinds.Sign sign) → Begins s text size kinds.LineMarker → ⊥
+no_marker s text size sign h g = (sign_like text size sign (spells_of text size sign s h)).no_hash g.form.hash
+
+line_block : {b : ℕ} → b ≡ 47 → b ≡ 42 → ⊥
+line_block e f = let g : 47 ≡ 42 = same_byte e f in omega arith
+
+slash_hash : {b : ℕ} → b ≡ 47 → b ≡ 35 → ⊥
+slash_hash e f = let g : 47 ≡ 35 = same_byte e f in omega arith
+
+block_open : (s : Bool) (text : List ℕ) (size : ℕ) → Begins s text size kinds.BlockComment → Begins s text size kinds.OpenComment → ⊥
+block_open s text size h g = g.form.never h.form.close h.form.after (omega (arith, h.form.ends)) h.form.closes
+
+-- pieces of one size have one kind
+pub same_kind : (s : Bool) (text : List ℕ) (size : ℕ) (kind other : Kind) → Begins s text size kind → Begins s text size other → kind ≡ other
+same_kind s text size (kinds.Blank b) (kinds.Blank c) h g = ap kinds.Blank (sym h.form.is ∙ g.form.is)
+same_kind s text size (kinds.Blank b) kinds.LineComment h g = absurd (other_blank (first_of s text size kinds.LineComment g) (first_of s text size (kinds.Blank b) h))
+same_kind s text size (kinds.Blank b) kinds.BlockComment h g = absurd (other_blank (first_of s text size kinds.BlockComment g) (first_of s text size (kinds.Blank b) h))
+same_kind s text size (kinds.Blank b) kinds.OpenComment h g = absurd (other_blank (first_of s text size kinds.OpenComment g) (first_of s text size (kinds.Blank b) h))
+same_kind s text size (kinds.Blank b) kinds.LineMarker h g = absurd (other_blank (first_of s text size kinds.LineMarker g) (first_of s text size (kinds.Blank b) h))
+same_kind s text size (kinds.Blank b) kinds.Word h g = absurd (blank_letter (first_of s text size (kinds.Blank b) h) (first_of s text size kinds.Word g))
+same_kind s text size (kinds.Blank b) kinds.Digits h g = absurd (blank_digit (first_of s text size (kinds.Blank b) h) (first_of s text size kinds.Digits g))
+same_kind s text size (kinds.Blank b) (kinds.Sign p) h g = absurd (other_blank (first_of s text size (kinds.Sign p) g) (first_of s text size (kinds.Blank b) h))
+same_kind s text size kinds.LineComment (kinds.Blank b) h g = absurd (other_blank (first_of s text size kinds.LineComment h) (first_of s text size (kinds.Blank b) g))
+same_kind s text size kinds.LineComment kinds.LineComment h g = refl
+same_kind s text size kinds.LineComment kinds.BlockComment h g = absurd (line_block h.form.second g.form.second)
+same_kind s text size kinds.LineComment kinds.OpenComment h g = absurd (line_block h.form.second g.form.second)
+same_kind s text size kinds.LineComment kinds.LineMarker h g = absurd (slash_hash h.form.first g.form.hash)
+same_kind s text size kinds.LineComment kinds.Word h g = absurd (other_letter (first_of s text size kinds.LineComment h) (first_of s text size kinds.Word g))
+same_kind s text size kinds.LineComment kinds.Digits h g = absurd (other_digit (first_of s text size kinds.LineComment h) (first_of s text size kinds.Digits g))
+same_kind s text size kinds.LineComment (kinds.Sign p) h g = absurd (no_line s text size p g h)
+same_kind s text size kinds.BlockComment (kinds.Blank b) h g = absurd (other_blank (first_of s text size kinds.BlockComment h) (first_of s text size (kinds.Blank b) g))
+same_kind s text size kinds.BlockComment kinds.LineComment h g = absurd (line_block g.form.second h.form.second)
+same_kind s text size kinds.BlockComment kinds.BlockComment h g = refl
+same_kind s text size kinds.BlockComment kinds.OpenComment h g = absurd (block_open s text size h g)
+same_kind s text size kinds.BlockComment kinds.LineMarker h g = absurd (slash_hash h.form.first g.form.hash)
+same_kind s text size kinds.BlockComment kinds.Word h g = absurd (other_letter (first_of s text size kinds.BlockComment h) (first_of s text size kinds.Word g))
+same_kind s text size kinds.BlockComment kinds.Digits h g = absurd (other_digit (first_of s text size kinds.BlockComment h) (first_of s text size kinds.Digits g))
+same_kind s text size kinds.BlockComment (kinds.Sign p) h g = absurd (no_block s text size p g h)
+same_kind s text size kinds.OpenComment (kinds.Blank b) h g = absurd (other_blank (first_of s text size kinds.OpenComment h) (first_of s text size (kinds.Blank b) g))
+same_kind s text size kinds.OpenComment kinds.LineComment h g = absurd (line_block g.form.second h.form.second)
+same_kind s text size kinds.OpenComment kinds.BlockComment h g = absurd (block_open s text size g h)
+same_kind s text size kinds.OpenComment kinds.OpenComment h g = refl
+same_kind s text size kinds.OpenComment kinds.LineMarker h g = absurd (slash_hash h.form.first g.form.hash)
+same_kind s text size kinds.OpenComment kinds.Word h g = absurd (other_letter (first_of s text size kinds.OpenComment h) (first_of s text size kinds.Word g))
+same_kind s text size kinds.OpenComment kinds.Digits h g = absurd (other_digit (first_of s text size kinds.OpenComment h) (first_of s text size kinds.Digits g))
+same_kind s text size kinds.OpenComment (kinds.Sign p) h g = absurd (no_open s text size p g h)
+same_kind s text size kinds.LineMarker (kinds.Blank b) h g = absurd (other_blank (first_of s text size kinds.LineMarker h) (first_of s text size (kinds.Blank b) g))
+same_kind s text size kinds.LineMarker kinds.LineComment h g = absurd (slash_hash g.form.first h.form.hash)
+same_kind s text size kinds.LineMarker kinds.BlockComment h g = absurd (slash_hash g.form.first h.form.hash)
+same_kind s text size kinds.LineMarker kinds.OpenComment h g = absurd (slash_hash g.form.first h.form.hash)
+same_kind s text size kinds.LineMarker kinds.LineMarker h g = refl
+same_kind s text size kinds.LineMarker kinds.Word h g = absurd (other_letter (first_of s text size kinds.LineMarker h) (first_of s text size kinds.Word g))
+same_kind s text size kinds.LineMarker kinds.Digits h g = absurd (other_digit (first_of s text size kinds.LineMarker h) (first_of s text size kinds.Digits g))
+same_kind s text size kinds.LineMarker (kinds.Sign p) h g = absurd (no_marker s text size p g h)
+same_kind s text size kinds.Word (kinds.Blank b) h g = absurd (blank_letter (first_of s text size (kinds.Blank b) g) (first_of s text size kinds.Word h))
+same_kind s text size kinds.Word kinds.LineComment h g = absurd (other_letter (first_of s text size kinds.LineComment g) (first_of s text size kinds.Word h))
+same_kind s text size kinds.Word kinds.BlockComment h g = absurd (other_letter (first_of s text size kinds.BlockComment g) (first_of s text size kinds.Word h))
+same_kind s text size kinds.Word kinds.OpenComment h g = absurd (other_letter (first_of s text size kinds.OpenComment g) (first_of s text size kinds.Word h))
+same_kind s text size kinds.Word kinds.LineMarker h g = absurd (other_letter (first_of s text size kinds.LineMarker g) (first_of s text size kinds.Word h))
+same_kind s text size kinds.Word kinds.Word h g = refl
+same_kind s text size kinds.Word kinds.Digits h g = absurd (letter_digit (first_of s text size kinds.Word h) (first_of s text size kinds.Digits g))
+same_kind s text size kinds.Word (kinds.Sign p) h g = absurd (other_letter (first_of s text size (kinds.Sign p) g) (first_of s text size kinds.Word h))
+same_kind s text size kinds.Digits (kinds.Blank b) h g = absurd (blank_digit (first_of s text size (kinds.Blank b) g) (first_of s text size kinds.Digits h))
+same_kind s text size kinds.Digits kinds.LineComment h g = absurd (other_digit (first_of s text size kinds.LineComment g) (first_of s text size kinds.Digits h))
+same_kind s text size kinds.Digits kinds.BlockComment h g = absurd (other_digit (first_of s text size kinds.BlockComment g) (first_of s text size kinds.Digits h))
+same_kind s text size kinds.Digits kinds.OpenComment h g = absurd (other_digit (first_of s text size kinds.OpenComment g) (first_of s text size kinds.Digits h))
+same_kind s text size kinds.Digits kinds.LineMarker h g = absurd (other_digit (first_of s text size kinds.LineMarker g) (first_of s text size kinds.Digits h))
+same_kind s text size kinds.Digits kinds.Word h g = absurd (letter_digit (first_of s text size kinds.Word g) (first_of s text size kinds.Digits h))
+same_kind s text size kinds.Digits kinds.Digits h g = refl
+same_kind s text size kinds.Digits (kinds.Sign p) h g = absurd (other_digit (first_of s text size (kinds.Sign p) g) (first_of s text size kinds.Digits h))
+same_kind s text size (kinds.Sign p) (kinds.Blank b) h g = absurd (other_blank (first_of s text size (kinds.Sign p) h) (first_of s text size (kinds.Blank b) g))
+same_kind s text size (kinds.Sign p) kinds.LineComment h g = absurd (no_line s text size p h g)
+same_kind s text size (kinds.Sign p) kinds.BlockComment h g = absurd (no_block s text size p h g)
+same_kind s text size (kinds.Sign p) kinds.OpenComment h g = absurd (no_open s text size p h g)
+same_kind s text size (kinds.Sign p) kinds.LineMarker h g = absurd (no_marker s text size p h g)
+same_kind s text size (kinds.Sign p) kinds.Word h g = absurd (other_letter (first_of s text size (kinds.Sign p) h) (first_of s text size kinds.Word g))
+same_kind s text size (kinds.Sign p) kinds.Digits h g = absurd (other_digit (first_of s text size (kinds.Sign p) h) (first_of s text size kinds.Digits g))
+same_kind s text size (kinds.Sign p) (kinds.Sign q) h g = ap kinds.Sign (one_sign p q (sym h.form ∙ g.form))

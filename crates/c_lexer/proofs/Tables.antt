@@ -8,7 +8,7 @@ use Rattle.c_lexer.specs.declared.token.Punct.TheVariants as signs
 use Rattle.c_lexer.specs.Spelling.{word_spelling, sign_spelling}
 use Rattle.std.specs.List.{list_all}
 use Rattle.std.proofs.lemmas.Bool.{false≢true}
-use Rattle.std.proofs.Common.{◌≢◌, leb, eqb, leb-true}
+use Rattle.std.proofs.Common.{◌≢◌, leb, eqb, leb-true, le-leb, eqb-true, find, bytes_eq, Option, Some}
 use Rattle.c_lexer.specs.declared.byte.Class.{Class}
 use Rattle.c_lexer.specs.declared.byte.Class.TheVariants.{Blank, Letter, Digit, Other}
 use Rattle.c_lexer.specs.Bytes.{class_of}
@@ -126,12 +126,13 @@ other_is Digit h = absurd (false≢true h)
 other_is Other h = refl
 
 -- what the first byte and the size of a spelling say
-pub record IsSignLike (first size : ℕ) : Type 0 where
+pub record IsSignLike (first second size : ℕ) : Type 0 where
   pub some : 1 ≤ size
   pub few : size ≤ 3
   pub other : class_of first ≡ Other
   pub no_hash : first ≢ 35
   pub slash : first ≡ 47 → size ≤ 2
+  pub after_slash : first ≡ 47 → 2 ≤ size → second ≡ 61
 
 abbrev unlike_hash : ℕ → Bool
 unlike_hash first = not (eqb first 35)
@@ -139,22 +140,126 @@ unlike_hash first = not (eqb first 35)
 abbrev short_slash : ℕ → ℕ → Bool
 short_slash first size = not (eqb first 47) || leb size 2
 
-abbrev sign_like : ℕ → ℕ → Bool
-sign_like first size = leb 1 size && (leb size 3 && (is_other (class_of first) && (unlike_hash first && short_slash first size)))
+abbrev equal_after_slash : ℕ → ℕ → ℕ → Bool
+equal_after_slash first second size = not (eqb first 47) || (not (leb 2 size) || eqb second 61)
 
-is_sign_like : (first size : ℕ) → sign_like first size ≡ true → IsSignLike first size
-is_sign_like first size h =
+abbrev sign_like : ℕ → ℕ → ℕ → Bool
+sign_like first second size = leb 1 size && (leb size 3 && (is_other (class_of first) && (unlike_hash first && (short_slash first size && equal_after_slash first second size))))
+
+is_sign_like : (first second size : ℕ) → sign_like first second size ≡ true → IsSignLike first second size
+is_sign_like first second size h =
     let a = both _ _ h in
     let b = both _ _ a.1 in
     let c = both _ _ b.1 in
     let d = both _ _ c.1 in
+    let f = both _ _ d.1 in
     record {
       some = leb-true 1 size a.0;
       few = leb-true size 3 b.0;
       other = other_is _ c.0;
       no_hash = λ e. false≢true (subst (λ x. unlike_hash x ≡ true) e d.0);
-      slash = λ e. leb-true size 2 (subst (λ x. short_slash x size ≡ true) e d.1);
+      slash = λ e. leb-true size 2 (subst (λ x. short_slash x size ≡ true) e f.0);
+      after_slash = λ e two. eqb-true second 61 (subst (λ b. (not b || eqb second 61) ≡ true) (le-leb 2 size two) (subst (λ x. equal_after_slash x second size ≡ true) e f.1));
     }
 
-pub sign_spells : (p : Punct) → IsSignLike (get_or (sign_spelling p) 0 0) (length (sign_spelling p))
-sign_spells p = is_sign_like _ _ (each_sign (λ q. sign_like (get_or (sign_spelling q) 0 0) (length (sign_spelling q))) refl p)
+pub sign_spells : (p : Punct) → IsSignLike (get_or (sign_spelling p) 0 0) (get_or (sign_spelling p) 1 0) (length (sign_spelling p))
+sign_spells p = is_sign_like _ _ _ (each_sign (λ q. sign_like (get_or (sign_spelling q) 0 0) (get_or (sign_spelling q) 1 0) (length (sign_spelling q))) refl p)
+
+-- which reserved word has a spelling
+abbrev spelled_word : List ℕ → Option Keyword
+spelled_word text = find (λ k. bytes_eq (word_spelling k) text) KEYWORDS
+
+word_again : (k : Keyword) → spelled_word (word_spelling k) ≡ Some k
+word_again words.Int = refl
+word_again words.Unsigned = refl
+word_again words.Signed = refl
+word_again words.Void = refl
+word_again words.Const = refl
+word_again words.Static = refl
+word_again words.If = refl
+word_again words.Else = refl
+word_again words.While = refl
+word_again words.Do = refl
+word_again words.For = refl
+word_again words.Break = refl
+word_again words.Continue = refl
+word_again words.Return = refl
+word_again words.Auto = refl
+word_again words.Case = refl
+word_again words.Char = refl
+word_again words.Default = refl
+word_again words.Double = refl
+word_again words.Enum = refl
+word_again words.Extern = refl
+word_again words.Float = refl
+word_again words.Goto = refl
+word_again words.Inline = refl
+word_again words.Long = refl
+word_again words.Register = refl
+word_again words.Restrict = refl
+word_again words.Short = refl
+word_again words.Sizeof = refl
+word_again words.Struct = refl
+word_again words.Switch = refl
+word_again words.Typedef = refl
+word_again words.Union = refl
+word_again words.Volatile = refl
+
+-- which punctuator has a spelling
+abbrev spelled_sign : List ℕ → Option Punct
+spelled_sign text = find (λ p. bytes_eq (sign_spelling p) text) PUNCTS
+
+sign_again : (p : Punct) → spelled_sign (sign_spelling p) ≡ Some p
+sign_again signs.Plus = refl
+sign_again signs.Minus = refl
+sign_again signs.Star = refl
+sign_again signs.Slash = refl
+sign_again signs.Percent = refl
+sign_again signs.ShiftLeft = refl
+sign_again signs.ShiftRight = refl
+sign_again signs.Less = refl
+sign_again signs.Greater = refl
+sign_again signs.LessEqual = refl
+sign_again signs.GreaterEqual = refl
+sign_again signs.EqualEqual = refl
+sign_again signs.NotEqual = refl
+sign_again signs.And = refl
+sign_again signs.Or = refl
+sign_again signs.Caret = refl
+sign_again signs.Tilde = refl
+sign_again signs.Bang = refl
+sign_again signs.AndAnd = refl
+sign_again signs.OrOr = refl
+sign_again signs.Equal = refl
+sign_again signs.PlusEqual = refl
+sign_again signs.MinusEqual = refl
+sign_again signs.StarEqual = refl
+sign_again signs.SlashEqual = refl
+sign_again signs.PercentEqual = refl
+sign_again signs.ShiftLeftEqual = refl
+sign_again signs.ShiftRightEqual = refl
+sign_again signs.AndEqual = refl
+sign_again signs.OrEqual = refl
+sign_again signs.CaretEqual = refl
+sign_again signs.PlusPlus = refl
+sign_again signs.MinusMinus = refl
+sign_again signs.Question = refl
+sign_again signs.Colon = refl
+sign_again signs.Comma = refl
+sign_again signs.Semicolon = refl
+sign_again signs.OpenParen = refl
+sign_again signs.CloseParen = refl
+sign_again signs.OpenBrace = refl
+sign_again signs.CloseBrace = refl
+sign_again signs.OpenBracket = refl
+sign_again signs.CloseBracket = refl
+
+some_is : {A : Type 0} {x y : A} → Some x ≡ Some y → x ≡ y
+some_is h = cc
+
+-- no spelling is that of two
+pub one_word : (j k : Keyword) → word_spelling j ≡ word_spelling k → j ≡ k
+one_word j k e = some_is (sym (word_again j) ∙ ap spelled_word e ∙ word_again k)
+
+pub one_sign : (p q : Punct) → sign_spelling p ≡ sign_spelling q → p ≡ q
+one_sign p q e = some_is (sym (sign_again p) ∙ ap spelled_sign e ∙ sign_again q)
