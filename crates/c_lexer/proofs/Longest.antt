@@ -1,5 +1,5 @@
 -- What begins a text, by its first bytes, and that a piece is the longest.
-use Rattle.std.proofs.Common.{◌≡◌, ◌≢◌, ◌≤◌, ◌<◌, ◌+◌, ◌⊎◌, inl, inr, ℕ, Bool, true, false, List, length, take, get_or, slice_index, refl, sym, ap, ◌∙◌, subst, arith}
+use Rattle.std.proofs.Common.{◌≡◌, ◌≢◌, ◌≤◌, ◌<◌, ◌+◌, inl, inr, ℕ, Bool, true, List, length, take, get_or, slice_index, refl, sym, ap, ◌∙◌, subst, arith}
 use Rattle.std.proofs.lemmas.Bool.{cases_lt, false≢true}
 use Rattle.std.proofs.lemmas.List.{get_or-take, length-take-le}
 use Rattle.c_lexer.specs.declared.byte.Class.{Class}
@@ -9,7 +9,7 @@ use Rattle.c_lexer.specs.declared.piece.Kind.TheVariants as kinds
 use Rattle.c_lexer.specs.declared.token.Punct.{Punct}
 use Rattle.c_lexer.specs.Bytes.{class_of, continues, is_space}
 use Rattle.c_lexer.specs.Fronts.{IsFront, IsWordByte, IsLineByte, IsFirstClose, HasNoClose, MarksLine, SpellsSign, IsLongestSign}
-use Rattle.c_lexer.specs.Pieces.{HasForm, Begins, IsLongest, HasNoPiece, ClosesAt}
+use Rattle.c_lexer.specs.Pieces.{Begins, IsLongest, HasNoPiece}
 use Rattle.c_lexer.specs.Spelling.{sign_spelling}
 use Rattle.c_lexer.proofs.Tables.{IsSignLike, sign_spells, one_sign}
 
@@ -141,8 +141,9 @@ slash_other {b} e = ap class_of e
 
 two_bytes : (text : List ℕ) (a b : ℕ) → get_or text 0 0 ≡ a → get_or text 1 0 ≡ b → a ≢ 10 → b ≢ 10 → (i : ℕ) → i < 2 → IsLineByte (slice_index text i)
 two_bytes text a b e f p q i h = elim (cases_lt i 1) [
-  inl l ↦ (let z : i ≡ 0 = omega arith in subst (λ j. IsLineByte (slice_index text j)) (sym z) (λ x. p (sym e ∙ x)))
-  | inr l ↦ (let z : i ≡ 1 = omega arith in subst (λ j. IsLineByte (slice_index text j)) (sym z) (λ x. q (sym f ∙ x))) ]
+  | inl l ↦ (let z : i ≡ 0 = omega arith in subst (λ j. IsLineByte (slice_index text j)) (sym z) (λ x. p (sym e ∙ x)))
+  | inr l ↦ (let z : i ≡ 1 = omega arith in subst (λ j. IsLineByte (slice_index text j)) (sym z) (λ x. q (sym f ∙ x)))
+]
 
 line_two : (text : List ℕ) (size : ℕ) → IsLineOpen text → IsFront IsLineByte text size → 2 ≤ size
 line_two text size open_at front = front_covers front 2 open_at.two (two_bytes text 47 47 open_at.first open_at.second (λ e. absurd (omega arith)) (λ e. absurd (omega arith)))
@@ -176,11 +177,13 @@ only_block : (s : Bool) (text : List ℕ) (at : ℕ) → IsBlockOpen text → Is
 only_block s text at o close more (kinds.Blank b) h = absurd (other_blank (slash_other o.first) (first_of s text more (kinds.Blank b) h))
 only_block s text at o close more kinds.LineComment h = absurd (let e : 42 ≡ 47 = same_byte o.second h.form.second in omega arith)
 only_block s text at o close more kinds.BlockComment h = elim (cases_lt at h.form.close) [
-  inl l ↦ absurd (h.form.earliest at close.after l close.closes)
-  | inr l ↦ omega (arith, h.form.ends) ]
+  | inl l ↦ absurd (h.form.earliest at close.after l close.closes)
+  | inr l ↦ omega (arith, h.form.ends)
+]
 only_block s text at o close more kinds.OpenComment h = elim (cases_lt (at + 1) more) [
-  inl l ↦ absurd (h.form.never at close.after (omega arith) close.closes)
-  | inr l ↦ omega arith ]
+  | inl l ↦ absurd (h.form.never at close.after (omega arith) close.closes)
+  | inr l ↦ omega arith
+]
 only_block s text at o close more kinds.LineMarker h = absurd (let e : 47 ≡ 35 = same_byte o.first h.form.hash in omega arith)
 only_block s text at o close more kinds.Word h = absurd (other_letter (slash_other o.first) h.form.first)
 only_block s text at o close more kinds.Digits h = absurd (other_digit (slash_other o.first) h.form.first)
@@ -209,10 +212,12 @@ digit_no_line_feed b h e = blank_digit (sym (ap class_of (sym e))) h
 
 marker_line : (text : List ℕ) (digit : ℕ) → MarksLine text digit → (i : ℕ) → i < digit + 1 → IsLineByte (slice_index text i)
 marker_line text digit m i h = elim (cases_lt i digit) [
-  inl l ↦ elim (cases_lt 0 i) [
-    inl p ↦ not_line_feed (slice_index text i) (m.spaces i p l)
-  | inr p ↦ (let z : i ≡ 0 = omega arith in subst (λ j. IsLineByte (slice_index text j)) (sym z) (λ x. let e : 35 ≡ 10 = same_byte m.hash x in omega arith)) ]
-  | inr l ↦ (let z : i ≡ digit = omega arith in subst (λ j. IsLineByte (slice_index text j)) (sym z) (digit_no_line_feed (slice_index text digit) m.is_digit)) ]
+  | inl l ↦ elim (cases_lt 0 i) [
+    | inl p ↦ not_line_feed (slice_index text i) (m.spaces i p l)
+    | inr p ↦ (let z : i ≡ 0 = omega arith in subst (λ j. IsLineByte (slice_index text j)) (sym z) (λ x. let e : 35 ≡ 10 = same_byte m.hash x in omega arith))
+  ]
+  | inr l ↦ (let z : i ≡ digit = omega arith in subst (λ j. IsLineByte (slice_index text j)) (sym z) (digit_no_line_feed (slice_index text digit) m.is_digit))
+]
 
 only_marker : (s : Bool) (text : List ℕ) (size : ℕ) → get_or text 0 0 ≡ 35 → IsFront IsLineByte text size → (more : ℕ) (kind : Kind) → Begins s text more kind → more ≤ size
 only_marker s text size e front more (kinds.Blank b) h = absurd (other_blank (ap class_of e) (first_of s text more (kinds.Blank b) h))
@@ -226,10 +231,19 @@ only_marker s text size e front more (kinds.Sign sign) h = absurd ((sign_like te
 
 pub longest_marker : (text : List ℕ) (size digit : ℕ) → MarksLine text digit → IsFront IsLineByte text size → IsLongest true text size kinds.LineMarker
 longest_marker text size digit m front = record {
-  begins = record { fits = front.fits; form = record {
-    start = refl; hash = m.hash; digit = digit; after = m.after;
-    within = (let covered : digit + 1 ≤ size = front_covers front (digit + 1) (omega (arith, m.within)) (marker_line text digit m) in omega arith);
-    spaces = m.spaces; is_digit = m.is_digit; line = front.all } };
+  begins = record {
+    fits = front.fits;
+    form = record {
+      start = refl;
+      hash = m.hash;
+      digit = digit;
+      after = m.after;
+      within = (let covered : digit + 1 ≤ size = front_covers front (digit + 1) (omega (arith, m.within)) (marker_line text digit m) in omega arith);
+      spaces = m.spaces;
+      is_digit = m.is_digit;
+      line = front.all;
+    };
+  };
   longest = only_marker true text size m.hash front;
 }
 
@@ -276,25 +290,38 @@ pub longest_of_three : (text : List ℕ) (sign : Punct) → SpellsSign text 3 si
 longest_of_three text sign h = record { sign = sign; kind_is = refl; spells = h; longest = λ more other g. (sign_like text more other g).few }
 
 pub longest_of_two : (text : List ℕ) (sign : Punct) → HasNoSign text 3 → SpellsSign text 2 sign → IsLongestSign text 2 (kinds.Sign sign)
-longest_of_two text sign three h = record { sign = sign; kind_is = refl; spells = h; longest = λ more other g.
-    let few : more ≤ 3 = (sign_like text more other g).few in
-    elim (cases_lt 2 more) [ inl l ↦ absurd (three other (at_size text more 3 other (omega arith) g)) | inr l ↦ l ] }
+longest_of_two text sign three h = record {
+  sign = sign;
+  kind_is = refl;
+  spells = h;
+  longest = λ more other g.
+      let few : more ≤ 3 = (sign_like text more other g).few in
+      elim (cases_lt 2 more) [ inl l ↦ absurd (three other (at_size text more 3 other (omega arith) g)) | inr l ↦ l ];
+}
 
 pub longest_of_one : (text : List ℕ) (sign : Punct) → HasNoSign text 3 → HasNoSign text 2 → SpellsSign text 1 sign → IsLongestSign text 1 (kinds.Sign sign)
-longest_of_one text sign three two h = record { sign = sign; kind_is = refl; spells = h; longest = λ more other g.
-    let few : more ≤ 3 = (sign_like text more other g).few in
-    elim (cases_lt 2 more) [
-      inl l ↦ absurd (three other (at_size text more 3 other (omega arith) g))
-    | inr l ↦ elim (cases_lt 1 more) [ inl k ↦ absurd (two other (at_size text more 2 other (omega arith) g)) | inr k ↦ k ] ] }
+longest_of_one text sign three two h = record {
+  sign = sign;
+  kind_is = refl;
+  spells = h;
+  longest = λ more other g.
+      let few : more ≤ 3 = (sign_like text more other g).few in
+      elim (cases_lt 2 more) [
+        | inl l ↦ absurd (three other (at_size text more 3 other (omega arith) g))
+        | inr l ↦ elim (cases_lt 1 more) [ inl k ↦ absurd (two other (at_size text more 2 other (omega arith) g)) | inr k ↦ k ]
+      ];
+}
 
 pub no_sign : (text : List ℕ) → HasNoSign text 3 → HasNoSign text 2 → HasNoSign text 1 → (size : ℕ) (sign : Punct) → SpellsSign text size sign → ⊥
 no_sign text three two one size sign g =
     let like : IsSignLike (get_or text 0 0) (get_or (take size text) 1 0) size = sign_like text size sign g in
     elim (cases_lt 2 size) [
-      inl l ↦ three sign (at_size text size 3 sign (omega (arith, like.few)) g)
-    | inr l ↦ elim (cases_lt 1 size) [
-        inl k ↦ two sign (at_size text size 2 sign (omega arith) g)
-      | inr k ↦ one sign (at_size text size 1 sign (omega (arith, like.some)) g) ] ]
+      | inl l ↦ three sign (at_size text size 3 sign (omega (arith, like.few)) g)
+      | inr l ↦ elim (cases_lt 1 size) [
+        | inl k ↦ two sign (at_size text size 2 sign (omega arith) g)
+        | inr k ↦ one sign (at_size text size 1 sign (omega (arith, like.some)) g)
+      ]
+    ]
 
 -- a piece has a byte
 pub has_byte : (s : Bool) (text : List ℕ) (size : ℕ) (kind : Kind) → Begins s text size kind → 0 < size
@@ -325,10 +352,10 @@ no_marker : (s : Bool) (text : List ℕ) (size : ℕ) (sign : Punct) → Begins 
 no_marker s text size sign h g = (sign_like text size sign (spells_of text size sign s h)).no_hash g.form.hash
 
 line_block : {b : ℕ} → b ≡ 47 → b ≡ 42 → ⊥
-line_block e f = let g : 47 ≡ 42 = same_byte e f in omega arith
+line_block {b} e f = let g : ◌≡◌ {A = ℕ} 47 42 = same_byte {b = b} e f in omega arith
 
 slash_hash : {b : ℕ} → b ≡ 47 → b ≡ 35 → ⊥
-slash_hash e f = let g : 47 ≡ 35 = same_byte e f in omega arith
+slash_hash {b} e f = let g : ◌≡◌ {A = ℕ} 47 35 = same_byte {b = b} e f in omega arith
 
 block_open : (s : Bool) (text : List ℕ) (size : ℕ) → Begins s text size kinds.BlockComment → Begins s text size kinds.OpenComment → ⊥
 block_open s text size h g = g.form.never h.form.close h.form.after (omega (arith, h.form.ends)) h.form.closes

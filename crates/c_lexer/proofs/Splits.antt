@@ -1,9 +1,9 @@
 -- A run is split into digits and a suffix in one way at most.
-use Rattle.std.proofs.Common.{◌≡◌, ◌≢◌, ◌≤◌, ◌<◌, ◌+◌, ◌*◌, ◌^◌, ◌⊎◌, ◌||◌, ◌==◌, inl, inr, ℕ, zero, suc, Bool, true, false, List, [], ◌∷◌, ◌++◌, length, take, drop, get_or, slice_index, min, fold, eqb, refl, sym, ap, ◌∙◌, subst, arith}
+use Rattle.std.proofs.Common.{◌≡◌, ◌≢◌, ◌≤◌, ◌<◌, ◌+◌, ◌*◌, ◌^◌, ◌⊎◌, ◌||◌, ◌==◌, inl, inr, ℕ, zero, suc, Bool, true, false, List, [], ◌∷◌, ◌++◌, length, take, drop, get_or, slice_index, min, refl, sym, ap, ◌∙◌, subst, arith}
 use Rattle.std.proofs.lemmas.Bool.{cases_lt, false≢true, eqb-true}
 use Rattle.std.proofs.lemmas.List.{take-append-drop, drop_more, length-take-le}
 use Rattle.std.proofs.Math.ListN.{drop_of_length-le}
-use Rattle.std.proofs.Math.Nat.{mul-le-mul_left, le-mul_of_pos_right, min-eq_left, min-eq_right}
+use Rattle.std.proofs.Math.Nat.{mul-le-mul_left, le-mul_of_pos_right}
 use Rattle.c_lexer.specs.declared.constant.Base.{Base}
 use Rattle.c_lexer.specs.declared.constant.Base.TheVariants.{Decimal, Octal, Hexadecimal}
 use Rattle.c_lexer.specs.declared.constant.Constant.{Constant}
@@ -14,11 +14,12 @@ use Rattle.c_lexer.specs.Fronts.{IsFront}
 -- a product with a sum, bounded on the way and at the end, is the same as bounded at the end
 pub saturates : (base n d most : ℕ) → 0 < base → min (base * min n most + d) most ≡ min (base * n + d) most
 saturates base n d most some = elim (cases_lt most n) [
-    inl l ↦ (let e : min n most ≡ most = omega arith in
+  | inl l ↦ (let e : min n most ≡ most = omega arith in
       let p : most ≤ most * base = le-mul_of_pos_right most some in
       let q : base * most ≤ base * n = mul-le-mul_left base (omega arith) in
       rw e (omega arith))
-  | inr l ↦ (let e : min n most ≡ n = omega arith in rw e refl) ]
+  | inr l ↦ (let e : min n most ≡ n = omega arith in rw e refl)
+]
 
 -- the byte after some digits, if there is one, is no digit
 abbrev NoDigit : ℕ → List ℕ → Type 0
@@ -32,8 +33,9 @@ either false b h = inr h
 suffix_no_digit : (base : ℕ) → base ≤ 16 → (s : List ℕ) → is_suffix s ≡ true → NoDigit base s
 suffix_no_digit base few [] h = tt
 suffix_no_digit base few (b ∷ []) h = λ l. elim (either (b == 117) (b == 85) h) [
-    inl e ↦ (let w : digit_worth b ≡ 16 = ap digit_worth (eqb-true b 117 e) in omega arith)
-  | inr e ↦ (let w : digit_worth b ≡ 16 = ap digit_worth (eqb-true b 85 e) in omega arith) ]
+  | inl e ↦ (let w : digit_worth b ≡ 16 = ap digit_worth (eqb-true b 117 e) in omega arith)
+  | inr e ↦ (let w : digit_worth b ≡ 16 = ap digit_worth (eqb-true b 85 e) in omega arith)
+]
 suffix_no_digit base few (b ∷ c ∷ bs) h = absurd (false≢true h)
 
 same_split : (base : ℕ) (a b x y : List ℕ) → AreDigits base a → AreDigits base b → NoDigit base x → NoDigit base y → a ++ x ≡ b ++ y → (a ≡ b) × (x ≡ y)
@@ -55,8 +57,9 @@ front_digits base (b ∷ bs) (suc n) fits all = (all 0 (omega arith), front_digi
 
 rest_no_digit : (base : ℕ) (text : List ℕ) (n : ℕ) → IsFront (λ b. digit_worth b < base) text n → NoDigit base (drop n text)
 rest_no_digit base text n front = elim (cases_lt n (length text)) [
-    inl l ↦ subst (NoDigit base) (sym (drop_more text n 0 l)) (front.stops l)
-  | inr l ↦ subst (NoDigit base) (sym (drop_of_length-le text l)) tt ]
+  | inl l ↦ subst (NoDigit base) (sym (drop_more text n 0 l)) (front.stops l)
+  | inr l ↦ subst (NoDigit base) (sym (drop_of_length-le text l)) tt
+]
 
 radix_few : (base : Base) → radix base ≤ 16
 radix_few Decimal = omega arith
@@ -67,7 +70,7 @@ radix_few Hexadecimal = omega arith
 pub split_is : (base : Base) (text : List ℕ) (n : ℕ) → IsFront (λ b. digit_worth b < radix base) text n → (digits suffix : List ℕ) → IsSplit base text digits suffix → (digits ≡ take n text) × (suffix ≡ drop n text)
 split_is base text n front digits suffix split =
     same_split (radix base) digits (take n text) suffix (drop n text) split.are_digits (front_digits (radix base) text n front.fits front.all)
-      (suffix_no_digit (radix base) (radix_few base) suffix split.ends) (rest_no_digit (radix base) text n front) (sym split.joined ∙ sym (take-append-drop n text))
+    (suffix_no_digit (radix base) (radix_few base) suffix split.ends) (rest_no_digit (radix base) text n front) (sym split.joined ∙ sym (take-append-drop n text))
 
 -- and there is such a split where a digit and a suffix are
 pub split_here : (base : Base) (text : List ℕ) (n : ℕ) → IsFront (λ b. digit_worth b < radix base) text n → 0 < n → is_suffix (drop n text) ≡ true → IsSplit base text (take n text) (drop n text)
@@ -88,8 +91,9 @@ not_x : (x : ℕ) (digits suffix : List ℕ) → digit_worth x ≡ 16 → x ≢ 
 not_x x [] suffix w o u v digits some ends e = omega arith
 not_x x (d ∷ []) [] w o u v digits some ends e = o (sym e)
 not_x x (d ∷ []) (b ∷ []) w o u v digits some ends e = elim (either (b == 117) (b == 85) ends) [
-    inl f ↦ u (sym e ∙ eqb-true b 117 f)
-  | inr f ↦ v (sym e ∙ eqb-true b 85 f) ]
+  | inl f ↦ u (sym e ∙ eqb-true b 117 f)
+  | inr f ↦ v (sym e ∙ eqb-true b 85 f)
+]
 not_x x (d ∷ []) (b ∷ c ∷ bs) w o u v digits some ends e = false≢true ends
 not_x x (d ∷ f ∷ fs) suffix w o u v digits some ends e = (let g : digit_worth f ≡ 16 = ap digit_worth e ∙ w in omega (arith, digits.1.0))
 
@@ -97,8 +101,9 @@ pub octal_no_x : (run digits suffix : List ℕ) → HasMark Hexadecimal run → 
 octal_no_x run digits suffix mark split =
     let second : get_or run 1 0 ≡ get_or (digits ++ suffix) 1 0 = ap (λ s. get_or s 1 0) split.joined in
     elim mark.1 [
-      inl e ↦ not_x 120 digits suffix refl (λ p. absurd (omega arith)) (λ p. absurd (omega arith)) (λ p. absurd (omega arith)) split.are_digits split.some split.ends (sym second ∙ e)
-    | inr e ↦ not_x 88 digits suffix refl (λ p. absurd (omega arith)) (λ p. absurd (omega arith)) (λ p. absurd (omega arith)) split.are_digits split.some split.ends (sym second ∙ e) ]
+      | inl e ↦ not_x 120 digits suffix refl (λ p. absurd (omega arith)) (λ p. absurd (omega arith)) (λ p. absurd (omega arith)) split.are_digits split.some split.ends (sym second ∙ e)
+      | inr e ↦ not_x 88 digits suffix refl (λ p. absurd (omega arith)) (λ p. absurd (omega arith)) (λ p. absurd (omega arith)) split.are_digits split.some split.ends (sym second ∙ e)
+    ]
 
 -- a run is a constant in one way
 pub record SameConstant (base other : Base) (digits suffix others tail : List ℕ) : Type 0 where
@@ -148,9 +153,13 @@ module _ (base : Base) (text : List ℕ) (r n : ℕ) (r_is : r ≡ radix base) (
         (base, take n text, drop n text, (refl, split_here base text n front_of some ends), subst (λ m. m < worth (radix base) (take n text)) g_is l)
 
     pub fits : (unsigned : Bool) → unsigned ≡ is_unsigned (drop n text) w → w ≤ g → Reads (SplitsIn base text) (Fits w unsigned)
-    fits unsigned unsigned_is few =
-        (base, take n text, drop n text, (refl, split_here base text n front_of some ends),
-          record { worth_is = omega (arith, w_worth); fits = subst (λ m. w ≤ m) g_is few; unsigned_is = unsigned_is })
+    fits unsigned unsigned_is few = (
+      base,
+      take n text,
+      drop n text,
+      (refl, split_here base text n front_of some ends),
+      record { worth_is = omega (arith, w_worth); fits = subst (λ m. w ≤ m) g_is few; unsigned_is = unsigned_is },
+    )
 
 -- what is read behind the mark of a base is what the run is
 of_base : (base : Base) (run : List ℕ) → HasMark base run → ((other : Base) (digits suffix : List ℕ) → IsConstant run other digits suffix → other ≡ base) → (r : Constant) → Reads (SplitsIn base (behind_mark base run)) r → Reads (λ digits suffix other. IsConstant run other digits suffix) r

@@ -1,5 +1,5 @@
 -- Each reserved word and each punctuator stands in its table, so a test of the table holds of each.
-use Rattle.std.proofs.Common.{◌≡◌, ℕ, zero, suc, ◌<◌, ◌≤◌, Bool, true, false, ◌&&◌, List, [], ◌∷◌, length, get_or, codes, nat_le, nat_lt, nat_eq, not, ◌||◌, ◌==◌, refl, sym, ap, ◌∙◌, subst, arith, lit<}
+use Rattle.std.proofs.Common.{◌≡◌, ℕ, zero, suc, ◌<◌, ◌≤◌, Bool, true, false, ◌&&◌, List, [], ◌∷◌, length, get_or, not, ◌||◌, refl, sym, ap, ◌∙◌, subst, arith, lit<}
 use Rattle.c_lexer.specs.declared.spelling.TheConstants.{KEYWORDS, PUNCTS}
 use Rattle.c_lexer.specs.declared.token.Keyword.{Keyword}
 use Rattle.c_lexer.specs.declared.token.Keyword.TheVariants as words

@@ -1,6 +1,5 @@
 -- How far a front of a text goes, in the words of the functions that look for its end.
 use Rattle.std.specs.Prelude.{ℕ, ◌≡◌, ◌≢◌, ◌≤◌, ◌<◌, ◌+◌, List, true, length, take, slice_index}
-use Rattle.c_lexer.specs.declared.byte.Class.{Class}
 use Rattle.c_lexer.specs.declared.byte.Class.TheVariants as classes
 use Rattle.c_lexer.specs.declared.piece.Kind.{Kind}
 use Rattle.c_lexer.specs.declared.piece.Kind.TheVariants as kinds

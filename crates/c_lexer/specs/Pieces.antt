@@ -1,6 +1,5 @@
 -- What a text is cut into: its tokens as they are before they have a meaning (ISO/IEC 9899 clause 6.4), and what stands between them.
 use Rattle.std.specs.Prelude.{ℕ, ◌≡◌, ◌≢◌, ◌≤◌, ◌<◌, ◌+◌, List, Bool, true, length, take, slice_index}
-use Rattle.c_lexer.specs.declared.byte.Class.{Class}
 use Rattle.c_lexer.specs.declared.byte.Class.TheVariants as classes
 use Rattle.c_lexer.specs.declared.piece.Kind.{Kind}
 use Rattle.c_lexer.specs.declared.piece.Kind.TheVariants as kinds

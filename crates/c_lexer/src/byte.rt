@@ -1,7 +1,7 @@
 //! Bytes, and what they may begin.
 
-ghost use Rattle.std.specs.Prelude.{◌≡◌, ◌≤◌, drop, length};
-ghost use Rattle.c_lexer.specs.Bytes.{class_of, continues, is_space};
+ghost use Rattle.std.specs.Prelude.{◌≡◌, ◌≤◌, drop, length, take};
+ghost use Rattle.c_lexer.specs.Bytes.{class_of, continues, is_space, line_after};
 
 /// What a byte may begin (ISO/IEC 9899 clause 5.2.1).
 #[derive(Clone, Copy, Debug, PartialEq, Eq)]
@@ -48,10 +48,32 @@ pub fn is_space(byte: u8) -> bool
     byte == 32 || byte == 9
 }
 
+/// Whether only spaces and tabs stand on the line behind a blank, if `starts_line` says so of the
+/// place before it.
+pub fn line_after(starts_line: bool, byte: u8) -> bool
+    ensures { result ≡ line_after starts_line byte }
+{
+    if byte == b'\n' {
+        true
+    } else if is_space(byte) {
+        starts_line
+    } else {
+        false
+    }
+}
+
 /// The bytes of a text from a place on.
 pub fn rest_of(text: &[u8], at: usize) -> &[u8]
     requires { at ≤ length text.now }
     ensures { result.now ≡ drop at text.now }
 {
     &text[at..]
+}
+
+/// The first bytes of a text.
+pub fn front_of(text: &[u8], size: usize) -> &[u8]
+    requires { size ≤ length text.now }
+    ensures { result.now ≡ take size text.now }
+{
+    &text[..size]
 }

@@ -1,5 +1,9 @@
 //! Why a text has no tokens.
 
+ghost use Rattle.std.specs.Prelude.{◌≡◌};
+ghost use Rattle.c_lexer.specs.declared.error.LexError.TheVariants as errors;
+
+use std::alloc::AllocFailed;
 use thiserror::Error;
 
 /// The first fault of a text, with the byte at which it stands, counted from 0; or no memory.
@@ -17,4 +21,20 @@ pub enum LexError {
     /// There was no memory.
     #[error("out of memory")]
     OutOfMemory,
+}
+
+impl From<hard_words::OutOfMemory> for LexError {
+    ghost from_gives = { λ _ e. e ≡ errors.OutOfMemory };
+
+    fn from(_error: hard_words::OutOfMemory) -> LexError {
+        LexError::OutOfMemory
+    }
+}
+
+impl<T: Drop> From<AllocFailed<T>> for LexError {
+    ghost from_gives = { λ _ e. e ≡ errors.OutOfMemory };
+
+    fn from(_error: AllocFailed<T>) -> LexError {
+        LexError::OutOfMemory
+    }
 }

@@ -4,6 +4,7 @@
 mod byte;
 mod constant;
 mod error;
+mod lexer;
 mod meaning;
 mod names;
 mod piece;
@@ -11,4 +12,5 @@ mod spelling;
 mod token;
 
 pub use error::LexError;
+pub use lexer::{one_result, tokens};
 pub use token::{Keyword, Punct, Token, TokenKind};

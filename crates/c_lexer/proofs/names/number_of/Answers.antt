@@ -1,4 +1,4 @@
-use Rattle.std.proofs.Common.{◌≡◌, ◌∙◌, ap, map, List, ℕ, Bor, bytes_eq}
+use Rattle.std.proofs.Common.{◌∙◌, ap, map, List, ℕ, Bor, bytes_eq}
 use Rattle.c_lexer.proofs.Spelled.{position-map, insert-map}
 use Rattle.c_lexer.proofs.names.number_of.Goals as goal
 

@@ -1,4 +1,4 @@
-use Rattle.std.proofs.Common.{◌≡◌, ◌≤◌, ◌<◌, ◌-◌, ℕ, length}
+use Rattle.std.proofs.Common.{◌≤◌, ◌<◌, ◌-◌, ℕ, length}
 use Rattle.c_lexer.specs.Pieces.{ClosesAt}
 use Rattle.c_lexer.proofs.piece.close_at.Given as goal
 

@@ -1,4 +1,4 @@
-use Rattle.c_lexer.proofs.Longest.{longest_block, longest_open, IsBlockOpen}
+use Rattle.c_lexer.proofs.Longest.{longest_block, longest_open}
 use Rattle.c_lexer.proofs.piece.comment_at.Goals as goal
 
 pub returns-in-Some : goal.returns-in-Some

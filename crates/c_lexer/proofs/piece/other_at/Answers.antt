@@ -1,14 +1,13 @@
-use Rattle.std.proofs.Common.{◌≡◌, ◌≤◌, ◌↔◌, ℕ, Bool, true, false, List, length, slice_index, Option, Some, None, IfSome, IfNone, IsTrue, refl, sym, ◌∙◌, subst}
+use Rattle.std.proofs.Common.{◌≡◌, ◌≤◌, ℕ, Bool, true, false, List, length, slice_index, Option, Some, None, IfSome, IfNone, refl, sym, ◌∙◌, subst}
 use Rattle.std.proofs.lemmas.Bool.{false≢true}
 use Rattle.c_lexer.specs.declared.byte.Class.TheVariants.{Other}
-use Rattle.c_lexer.specs.declared.piece.Kind.{Kind}
 use Rattle.c_lexer.specs.declared.piece.Kind.TheVariants as kinds
 use Rattle.c_lexer.specs.declared.piece.Piece.{Piece}
 use Rattle.c_lexer.specs.declared.token.Punct.{Punct}
 use Rattle.c_lexer.specs.Bytes.{class_of}
 use Rattle.c_lexer.specs.Fronts.{IsFront, IsLineByte, IsLongestSign, MarksLine, SpellsSign}
 use Rattle.c_lexer.specs.Pieces.{HasNoPiece, IsLongest}
-use Rattle.c_lexer.proofs.Longest.{longest_line, longest_marker, longest_sign, no_piece, IsLineOpen, IsBlockOpen, IsSignOnly}
+use Rattle.c_lexer.proofs.Longest.{longest_line, longest_marker, longest_sign, no_piece, IsLineOpen, IsSignOnly}
 use Rattle.c_lexer.proofs.piece.other_at.Goals as goal
 use Rattle.c_lexer.proofs.piece.other_at.Goals.{else-starts_line-via-then-starts_line+else-marks_line, else-starts_line-via-else-starts_line}
 
@@ -49,15 +48,17 @@ returns-then-marks_line-clause-found c = marker_at c.args.starts_line c.args.tex
 pub returns-else-starts_line-clause-found : goal.returns-else-starts_line-clause-found
 returns-else-starts_line-clause-found c =
     let only : IsSignOnly c.args.starts_line c.args.text.now = sign_only c.args.starts_line c.args.text.now c.requires.other c.if-begins_with.ensures.1 c.if-begins_with-2.ensures.1
-          (elim c.else-starts_line.branch [
-              else-starts_line-via-then-starts_line+else-marks_line w ↦ (λ e digit m. false≢true (w.if-marks_line.ensures.1 (digit, m)))
-            | else-starts_line-via-else-starts_line w ↦ (λ e digit m. false≢true (sym w.if-starts_line.false ∙ e)) ]) in
+    (elim c.else-starts_line.branch [
+      | else-starts_line-via-then-starts_line+else-marks_line w ↦ (λ e digit m. false≢true (w.if-marks_line.ensures.1 (digit, m)))
+      | else-starts_line-via-else-starts_line w ↦ (λ e digit m. false≢true (sym w.if-starts_line.false ∙ e))
+    ]) in
     found_of c.args.starts_line c.args.text.now c.sign_at.result only c.sign_at.ensures.found
 
 pub returns-else-starts_line-clause-none : goal.returns-else-starts_line-clause-none
 returns-else-starts_line-clause-none c =
     let only : IsSignOnly c.args.starts_line c.args.text.now = sign_only c.args.starts_line c.args.text.now c.requires.other c.if-begins_with.ensures.1 c.if-begins_with-2.ensures.1
-          (elim c.else-starts_line.branch [
-              else-starts_line-via-then-starts_line+else-marks_line w ↦ (λ e digit m. false≢true (w.if-marks_line.ensures.1 (digit, m)))
-            | else-starts_line-via-else-starts_line w ↦ (λ e digit m. false≢true (sym w.if-starts_line.false ∙ e)) ]) in
+    (elim c.else-starts_line.branch [
+      | else-starts_line-via-then-starts_line+else-marks_line w ↦ (λ e digit m. false≢true (w.if-marks_line.ensures.1 (digit, m)))
+      | else-starts_line-via-else-starts_line w ↦ (λ e digit m. false≢true (sym w.if-starts_line.false ∙ e))
+    ]) in
     none_of c.args.starts_line c.args.text.now c.sign_at.result only c.sign_at.ensures.none

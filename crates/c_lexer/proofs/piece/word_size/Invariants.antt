@@ -1,4 +1,4 @@
-use Rattle.std.proofs.Common.{◌≡◌, ◌≤◌, ◌<◌, ◌-◌, ℕ, length, slice_index}
+use Rattle.std.proofs.Common.{◌≤◌, ◌<◌, ◌-◌, ℕ, length, slice_index}
 use Rattle.c_lexer.specs.Fronts.{IsWordByte}
 use Rattle.c_lexer.proofs.piece.word_size.Given as goal
 

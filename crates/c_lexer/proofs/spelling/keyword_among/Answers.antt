@@ -1,9 +1,8 @@
-use Rattle.std.proofs.Common.{◌≡◌, ◌≢◌, take, subst, All, arith}
+use Rattle.std.proofs.Common.{◌≢◌, subst, All, arith}
 use Rattle.std.proofs.lemmas.List.{take_all}
 use Rattle.std.proofs.lemmas.List.Elements.{All-more}
 use Rattle.std.proofs.lemmas.Bool.{false≢true}
 use Rattle.c_lexer.specs.Spelling.{word_spelling}
-use Rattle.c_lexer.specs.declared.token.Keyword.{Keyword}
 use Rattle.c_lexer.specs.declared.token.Keyword.TheVariants as words
 use Rattle.c_lexer.proofs.spelling.keyword_among.Goals as goal
 
