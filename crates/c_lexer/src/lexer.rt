@@ -65,3 +65,6 @@ fn add_piece(
 pub fn one_result()
     ensures { HasOneResult }
 {}
+
+#[cfg(test)]
+mod tests;
