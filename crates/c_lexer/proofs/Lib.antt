@@ -1,0 +1,6 @@
+pub mod Tables
+pub mod Longest
+pub mod Splits
+pub mod Spelled
+pub mod OneResult
+pub mod Lexed

@@ -1,6 +1,16 @@
 //! The tokens of the C subset.
 #![tactic(auto)]
 
+mod byte;
+mod constant;
+mod error;
+mod lexer;
+mod meaning;
+mod names;
+mod piece;
+mod spelling;
 mod token;
 
+pub use error::LexError;
+pub use lexer::{one_result, tokens};
 pub use token::{Keyword, Punct, Token, TokenKind};
