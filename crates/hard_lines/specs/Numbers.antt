@@ -29,3 +29,7 @@ negative_value bs = if are_digits bs && nat_le (digits_value bs) (2 ^ 31) then S
 abbrev pub value_of : List ℕ → Option ℕ
 value_of [] = None
 value_of (b ∷ bs) = if b == 45 then negative_value bs else unsigned_value (b ∷ bs)
+
+-- a number word of a command line: 1 to 20 decimal digits and nothing else, up to a greatest number
+abbrev pub number_up_to : ℕ → List ℕ → Option ℕ
+number_up_to most bs = if (nat_le (length bs) 20 && are_digits bs) && nat_le (digits_value bs) most then Some (digits_value bs) else None

@@ -24,7 +24,7 @@ pub enum LinesError {
 
 const MOST: usize = 1_000_000;
 
-/// The numbers of a text, as words of 32 bits: decimal digits, with a minus sign before them or
+/// The numbers of a text, at most 1,000,000, as words of 32 bits: decimal digits, with a minus sign before them or
 /// not, from -2147483648 to 4294967295 and taken modulo 2^32, between spaces, tabs, carriage
 /// returns and line feeds. A line ends with a line feed.
 ///
@@ -35,6 +35,7 @@ const MOST: usize = 1_000_000;
 pub fn read_inputs(alloc: Global, bytes: &[u8]) -> Result<Vec<u32>, LinesError>
     requires { length bytes.now ≤ 16777216 }
     ensures ok { IfOk result (λ numbers. inputs bytes.now ≡ Ok numbers.items) }
+    ensures few { IfOk result (λ numbers. length numbers.items ≤ 1000000) }
     ensures err { IfErr result (λ error. (error ≡ LinesError.OutOfMemory) ⊎ (inputs bytes.now ≡ Err error)) }
 {
     let mut numbers = Vec::new(alloc);
@@ -113,7 +114,11 @@ fn piece_end(text: &[u8]) -> usize
 fn behind(text: &[u8], at: usize) -> &[u8]
     ensures { result.now ≡ drop (at + 1) text.now }
 {
-    if at < text.len() { &text[at + 1..] } else { &[] }
+    if at < text.len() {
+        &text[at + 1..]
+    } else {
+        &[]
+    }
 }
 
 fn is_blank(b: u8) -> bool

@@ -1,4 +1,5 @@
-//! Small texts: numbers that a program is fed with, and a word as a decimal number.
+//! Small texts: numbers that a program is fed with, a number of a command line, and a word as a
+//! decimal number.
 #![tactic(auto)]
 
 mod inputs;
@@ -6,6 +7,7 @@ mod numbers;
 mod print;
 
 pub use inputs::{LinesError, read_inputs};
+pub use numbers::number_up_to;
 pub use print::print_word;
 
 #[cfg(test)]

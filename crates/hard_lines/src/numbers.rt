@@ -1,7 +1,23 @@
 //! Decimal numbers of any number of digits.
 
-ghost use Rattle.std.specs.Prelude.{◌≡◌, ◌+◌, ◌-◌, ◌*◌, ◌^◌, min};
-ghost use Rattle.hard_lines.specs.Numbers.{is_digit, are_digits, digits_value, unsigned_value, negative_value, value_of};
+ghost use Rattle.std.specs.Prelude.{◌≡◌, ◌<◌, ◌+◌, ◌-◌, ◌*◌, ◌^◌, min};
+ghost use Rattle.hard_lines.specs.Numbers.{is_digit, are_digits, digits_value, unsigned_value, negative_value, value_of, number_up_to};
+
+/// The number of a word of a command line: 1 to 20 decimal digits, leading zeros among them, and
+/// nothing else, with a value of at most `most`. `None` for any other text.
+///
+/// `most` is below 18446744073709551615, the greatest `u64`.
+pub fn number_up_to(text: &[u8], most: u64) -> Option<u64>
+    requires { most < 2 ^ 64 - 1 }
+    ensures { result ≡ number_up_to most text.now }
+{
+    let value = digits_value(text);
+    if text.len() <= 20 && are_digits(text) && value <= most {
+        Some(value)
+    } else {
+        None
+    }
+}
 
 // The word of 32 bits that a piece of text stands for, if it is a number in range.
 pub(crate) fn value_of(piece: &[u8]) -> Option<u32>

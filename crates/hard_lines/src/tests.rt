@@ -1,6 +1,6 @@
 //! What texts of numbers stand for.
 
-use crate::{LinesError, print_word, read_inputs};
+use crate::{LinesError, number_up_to, print_word, read_inputs};
 use std::test::*;
 
 #[test]
@@ -67,6 +67,34 @@ fn counts_to_a_million(rt: HostRuntime) -> Result<(), Fail> {
     let seen = read_inputs(alloc, text.as_slice());
     assert!(rt; matches!(seen, Err(LinesError::TooMany)));
     Ok(())
+}
+
+#[test]
+fn reads_words_of_a_command_line(rt: HostRuntime) {
+    let cases: [(&[u8], u64, Option<u64>); 13] = [
+        (b"0", 0, Some(0)),
+        (b"1", 0, None),
+        (b"65535", 65535, Some(65535)),
+        (b"65536", 65535, None),
+        (b"00000000000000000042", 42, Some(42)),
+        (b"000000000000000000042", 42, None),
+        (
+            b"18446744073709551614",
+            u64::MAX - 1,
+            Some(18_446_744_073_709_551_614),
+        ),
+        (b"18446744073709551615", u64::MAX - 1, None),
+        (b"99999999999999999999", u64::MAX - 1, None),
+        (b"", 9, None),
+        (b"-1", 9, None),
+        (b"+1", 9, None),
+        (b"1 ", 9, None),
+    ];
+    for (text, most, want) in cases {
+        if most < u64::MAX {
+            assert_eq!(rt; number_up_to(text, most), want);
+        }
+    }
 }
 
 #[test]
