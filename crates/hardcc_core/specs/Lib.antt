@@ -3,6 +3,7 @@ pub mod SmallWords
 pub mod Same
 pub mod Commands
 pub mod Compiled
+pub mod RefusalLines
 pub mod Outcomes
 pub mod Seen
 pub mod Failures

@@ -5,6 +5,7 @@ mod command;
 mod compiler;
 mod failure;
 mod laws;
+mod refusal_lines;
 mod small_text;
 mod tool;
 
