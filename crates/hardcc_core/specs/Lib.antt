@@ -4,6 +4,8 @@ pub mod Same
 pub mod Commands
 pub mod Compiled
 pub mod RefusalLines
+pub mod Outcomes
+pub mod Seen
 pub mod Failures
 pub mod Outcomes
 pub mod Causes

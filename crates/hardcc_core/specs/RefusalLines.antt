@@ -1,16 +1,40 @@
--- Stand-in.
-use Rattle.std.specs.Prelude.{ℕ, List, [], codes}
+-- The lines that say why an image, a text of numbers or a source is refused. Numbers are decimal.
+use Rattle.std.specs.Prelude.{ℕ, List, [], ◌++◌, codes, decimal}
+use Rattle.fault_replay.specs.Show.{line}
 use Rattle.elf_image.specs.declared.read.ImageError.{ImageError}
+use Rattle.elf_image.specs.declared.read.ImageError.TheVariants.{Truncated, NotElf, NotMips, BadHeader, BadSegment, BadSection, TrailingBytes, OutOfMemory}
 use Rattle.hard_lines.specs.declared.inputs.LinesError.{LinesError}
+use Rattle.hard_lines.specs.declared.inputs.LinesError.TheVariants.{BadNumber, TooMany, OutOfMemory as NoMemory}
 
+-- a cause, with how many bytes it needs and how many there are
+abbrev pub need_and_have : List ℕ → ℕ → ℕ → List ℕ
+need_and_have cause need have = cause ++ codes ", need " ++ decimal need ++ codes " have " ++ decimal have
+
+-- Why bytes hold no image of the ELF chapters of the System V ABI; nothing is said of want of memory.
 unfoldable pub image_line : ImageError → List ℕ
-image_line e = codes "x"
+image_line (Truncated need have) = line (need_and_have (codes "image refused: truncated") need have)
+image_line NotElf = line (codes "image refused: not ELF")
+image_line NotMips = line (codes "image refused: not MIPS")
+image_line (BadHeader field) = line (codes "image refused: header field at " ++ decimal field)
+image_line (BadSegment index) = line (codes "image refused: segment " ++ decimal index)
+image_line (BadSection index) = line (codes "image refused: section " ++ decimal index)
+image_line (TrailingBytes need have) = line (need_and_have (codes "image refused: trailing bytes") need have)
+image_line OutOfMemory = []
 
-unfoldable pub input_line : LinesError → List ℕ
-input_line e = codes "x"
-
+-- the line of an image file that is larger than any that is read
 unfoldable pub image_too_large : List ℕ
-image_too_large = codes "x"
+image_too_large = line (codes "image refused: too large")
 
+-- Why a text of numbers is refused; nothing is said of want of memory.
+unfoldable pub input_line : LinesError → List ℕ
+input_line (BadNumber place) = line (codes "input refused: number on line " ++ decimal place)
+input_line TooMany = line (codes "input refused: too many numbers")
+input_line NoMemory = []
+
+-- the line of an input file that is larger than any that is read
 unfoldable pub input_too_large : List ℕ
-input_too_large = codes "x"
+input_too_large = line (codes "input refused: too large")
+
+-- Why a source is refused, and the offset of the byte where it is.
+unfoldable pub source_line_at : List ℕ → ℕ → List ℕ
+source_line_at kind at = line (codes "source refused: " ++ kind ++ codes " at " ++ decimal at)

@@ -7,7 +7,6 @@ mod compiler;
 mod failure;
 mod laws;
 mod refusal_lines;
-mod run_file;
 mod small_text;
 mod tool;
 
