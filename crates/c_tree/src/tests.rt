@@ -1,4 +1,4 @@
-//! The sizes of trees made by hand, counted on paper.
+//! The sizes of some trees, counted by hand.
 
 use crate::laws::{examples_hold, levels_agree, more_fuel, output_is_added, small_runs};
 use crate::sizes::{depth, nodes};
