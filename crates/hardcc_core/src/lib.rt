@@ -6,6 +6,7 @@ mod compiler;
 mod failure;
 mod laws;
 mod small_text;
+mod small_tokens;
 mod tool;
 
 pub use compiler::{Refusal, compile};
