@@ -1,13 +1,16 @@
 -- How tokens of the small form are read, in one way only.
-use Rattle.std.proofs.Common.{◌≡◌, ◌∙◌, ℕ, zero, suc, ◌+◌, ◌*◌, ◌<◌, ◌≤◌, ◌++◌, List, [], ◌∷◌, length, arith, ap, sym, refl, subst, append_assoc}
-use Rattle.std.specs.Prelude.{Bool, replicate}
+use Rattle.std.proofs.Common.{◌≡◌, ◌∙◌, ℕ, zero, suc, ◌+◌, ◌*◌, ◌<◌, ◌≤◌, ◌^◌, ◌++◌, List, [], ◌∷◌, length, arith, ap, sym, refl, subst, append_assoc}
+use Rattle.std.specs.Prelude.{Bool, All, replicate}
 use Rattle.std.proofs.lemmas.List.{append_cancel_left, length-append, length-map}
+use Rattle.std.proofs.lemmas.List.Elements.{All-drop, All-head, All-map}
+use Rattle.std.proofs.lemmas.List.Prefix.{front_rest}
 use Rattle.c_lexer.specs.declared.token.Token.{Token}
 use Rattle.c_lexer.specs.declared.token.TokenKind.{TokenKind}
 use Rattle.c_lexer.specs.declared.token.TokenKind.TheVariants.{Name, Number, Word, Sign}
 use Rattle.c_lexer.specs.declared.token.Keyword.TheVariants.{Return}
 use Rattle.c_lexer.specs.declared.token.Punct.TheVariants.{OpenParen, CloseParen}
-use Rattle.hardcc_core.specs.SmallTokens.{kinds, main_opens, call_opens, call_closes, return_opens, return_closes, main_closes, Constant, Statement, IsCall, IsEnd, IsBody, IsSmallTokens}
+use Rattle.hardcc_core.specs.SmallWords.{AreWords}
+use Rattle.hardcc_core.specs.SmallTokens.{kinds, IsWordKind, main_opens, call_opens, call_closes, return_opens, return_closes, main_closes, Constant, Statement, IsCall, IsEnd, IsBody, IsSmallTokens}
 
 -- behind a front that was read stands what stands there in any reading by a longer front
 pub behind_front : {K : Type 0} (whole front rest back more : List K) (x : K) → whole ≡ front ++ rest → whole ≡ (front ++ x ∷ back) ++ more → rest ≡ x ∷ (back ++ more)
@@ -133,3 +136,36 @@ no_body (n ∷ ns) rest l no_end no_call h = no_call n h.0 h.1
 pub no_tokens : (tokens : List Token) → kinds tokens ≡ [] → length tokens ≡ 0
 no_tokens [] h = refl
 no_tokens (t ∷ ts) h = cc h
+
+-- words and one more
+pub words_and_one : (ns : List ℕ) (n : ℕ) → AreWords ns → n < 2 ^ 32 → AreWords (ns ++ n ∷ [])
+words_and_one [] n words word = (word, tt)
+words_and_one (m ∷ ns) n words word = (words.0, words_and_one ns n words.1 word)
+
+-- what holds of all holds of all behind a front
+pub all_behind : (P : TokenKind → Type 0) (text front rest : List TokenKind) → text ≡ front ++ rest → All P text → All P rest
+all_behind P text front rest e all =
+    subst (λ (xs : List TokenKind). All P xs) (front_rest text front rest e) (All-drop P (length front) text all)
+
+-- where all constants are words, that of a statement is one, and those behind it are
+pub word_of_statement : (before after text rest : List TokenKind) (n : ℕ) → Statement before n after text rest → All IsWordKind text → (n < 2 ^ 32) × All IsWordKind rest
+word_of_statement before after text rest n h all =
+    let closing = replicate h.constant.depth (Sign CloseParen) in
+    let number = Number n h.constant.is_unsigned in
+    let inner = all_behind IsWordKind text before h.inner h.begins all in
+    let at = all_behind IsWordKind h.inner (replicate h.constant.depth (Sign OpenParen)) (number ∷ (closing ++ h.outer)) h.constant.is inner in
+    let closed = all_behind IsWordKind (number ∷ (closing ++ h.outer)) (number ∷ closing) h.outer refl at in
+    (All-head IsWordKind number (closing ++ h.outer) at, all_behind IsWordKind h.outer after rest h.ends closed)
+
+-- and all numbers of a body are
+pub words_of_body : (ns : List ℕ) (l : ℕ) (text : List TokenKind) → IsBody ns l text → All IsWordKind text → AreWords ns × (l < 2 ^ 32)
+words_of_body [] l text h all = (tt, (word_of_statement return_opens return_closes text main_closes l h all).0)
+words_of_body (n ∷ ns) l text h all =
+    let here = word_of_statement call_opens call_closes text h.0 n h.1 all in
+    let more = words_of_body ns l h.0 h.2 here.1 in
+    ((here.0, more.0), more.1)
+
+-- and all numbers of the tokens
+pub words_of_tokens : (tokens : List Token) (ns : List ℕ) (l : ℕ) → All (λ (t : Token). IsWordKind t.kind) tokens → IsSmallTokens tokens ns l → AreWords ns × (l < 2 ^ 32)
+words_of_tokens tokens ns l all h =
+    words_of_body ns l h.0 h.2 (all_behind IsWordKind (kinds tokens) main_opens h.0 h.1 (All-map IsWordKind (λ (t : Token). t.kind) tokens all))

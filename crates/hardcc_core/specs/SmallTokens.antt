@@ -1,5 +1,5 @@
 -- The small form of C over its tokens: a `main` that puts out constant words and returns one (ISO/IEC 9899, 5.1.2.2.1, 6.5.1, 6.8.6.4).
-use Rattle.std.specs.Prelude.{ℕ, ◌≡◌, ◌++◌, Bool, List, [], ◌∷◌, map, replicate}
+use Rattle.std.specs.Prelude.{ℕ, ◌≡◌, ◌<◌, ◌^◌, ◌++◌, Bool, List, [], ◌∷◌, map, replicate}
 use Rattle.c_lexer.specs.declared.token.Token.{Token}
 use Rattle.c_lexer.specs.declared.token.TokenKind.{TokenKind}
 use Rattle.c_lexer.specs.declared.token.TokenKind.TheVariants.{Name, Number, Word, Sign}
@@ -9,6 +9,13 @@ use Rattle.c_lexer.specs.declared.token.Punct.TheVariants.{OpenParen, CloseParen
 -- what the tokens are, in order; where they stand doesn't matter
 abbrev pub kinds : List Token → List TokenKind
 kinds tokens = map (λ t. t.kind) tokens
+
+-- a constant's value is a word of 32 bits
+abbrev pub IsWordKind : TokenKind → Type 0
+IsWordKind (Number n is_unsigned) = n < 2 ^ 32
+IsWordKind (Name n) = Unit {0}
+IsWordKind (Word keyword) = Unit {0}
+IsWordKind (Sign punct) = Unit {0}
 
 -- `int main ( void ) {`
 abbrev pub main_opens : List TokenKind

@@ -1,11 +1,12 @@
 //! The small form of C over its tokens: a `main` that puts out constant words and returns one.
 
-ghost use Rattle.std.specs.Prelude.{Bool, ◌≡◌, ◌*◌, ◌≤◌, ◌++◌, ◌∷◌, ℕ, List, IfOk, IfSome, IsNone, MatchOption, length, replicate};
+ghost use Rattle.std.specs.Prelude.{Bool, ◌≡◌, ◌*◌, ◌≤◌, ◌++◌, ◌∷◌, ℕ, List, IfOk, IfSome, IsNone, MatchOption, All, length, replicate, ◌<◌, ◌^◌};
 ghost use Rattle.c_lexer.specs.declared.token.Token.{Token};
 ghost use Rattle.c_lexer.specs.declared.token.TokenKind.{TokenKind};
 ghost use Rattle.c_lexer.specs.declared.token.TokenKind.TheVariants.{Number, Sign};
 ghost use Rattle.c_lexer.specs.declared.token.Punct.TheVariants.{OpenParen, CloseParen};
-ghost use Rattle.hardcc_core.specs.SmallTokens.{kinds, Constant, Statement, IsEnd, IsBody, IsSmallTokens};
+ghost use Rattle.hardcc_core.specs.SmallTokens.{kinds, IsWordKind, Constant, Statement, IsEnd, IsBody, IsSmallTokens};
+ghost use Rattle.hardcc_core.specs.SmallWords.{AreWords};
 
 use crate::small_text::SmallText;
 use c_lexer::{Keyword, Punct, Token, TokenKind};
@@ -22,12 +23,10 @@ use std::alloc::Global;
 /// # Errors
 ///
 /// `OutOfMemory`, where there is no memory for the numbers.
-pub fn read_small_tokens(
-    alloc: Global,
-    tokens: &[Token],
-) -> Result<Option<SmallText>, OutOfMemory>
+pub fn read_small_tokens(alloc: Global, tokens: &[Token]) -> Result<Option<SmallText>, OutOfMemory>
     ensures found { IfOk result (λ o. IfSome o (λ s. IsSmallTokens tokens.now s.numbers s.last)) }
     ensures none { IfOk result (λ o. IsNone o → (numbers : List ℕ) (last : ℕ) → IsSmallTokens tokens.now numbers last → ⊥) }
+    ensures words { IfOk result (λ o. IfSome o (λ s. AreWords s.numbers × (s.last < 2 ^ 32))) }
 {
     let opens = [
         TokenKind::Word(Keyword::Int),
@@ -47,6 +46,7 @@ pub fn read_small_tokens(
 fn read_body(alloc: Global, tokens: &[Token]) -> Result<Option<SmallText>, OutOfMemory>
     ensures found { IfOk result (λ o. IfSome o (λ s. IsBody s.numbers s.last (kinds tokens.now))) }
     ensures none { IfOk result (λ o. IsNone o → (numbers : List ℕ) (last : ℕ) → IsBody numbers last (kinds tokens.now) → ⊥) }
+    ensures words { IfOk result (λ o. IfSome o (λ s. AreWords s.numbers × (s.last < 2 ^ 32))) }
 {
     let opens = [TokenKind::Name(2), TokenKind::Sign(Punct::OpenParen)];
     let closes = [
@@ -82,9 +82,10 @@ fn read_statement<'a>(
     before: &[TokenKind],
     after: &[TokenKind],
 ) -> Option<(u32, &'a [Token])>
-    ensures { MatchOption result
+    ensures reads { MatchOption result
         ((n : ℕ) (rest : List TokenKind) → Statement before.now n after.now (kinds tokens.now) rest → ⊥)
         (λ r. Statement before.now r.0 after.now (kinds tokens.now) (kinds r.1.now)) }
+    ensures word { IfSome result (λ r. r.0 < 2 ^ 32) }
 {
     let inner = read_kinds(tokens, before)?;
     let (number, outer) = read_constant(inner)?;
@@ -94,9 +95,10 @@ fn read_statement<'a>(
 
 /// Reads a constant in any number of parentheses; the answer is its value and what follows.
 fn read_constant(tokens: &[Token]) -> Option<(u32, &[Token])>
-    ensures { MatchOption result
+    ensures reads { MatchOption result
         ((n : ℕ) (rest : List TokenKind) → Constant n (kinds tokens.now) rest → ⊥)
         (λ r. Constant r.0 (kinds tokens.now) (kinds r.1.now)) }
+    ensures word { IfSome result (λ r. r.0 < 2 ^ 32) }
 {
     let (depth, inner) = read_opening(tokens);
     let (number, outer) = read_number(inner)?;
@@ -133,13 +135,14 @@ fn read_closing(tokens: &[Token], depth: usize) -> Option<&[Token]>
 
 /// Reads one constant; the answer is its value and what follows.
 fn read_number(tokens: &[Token]) -> Option<(u32, &[Token])>
-    ensures { MatchOption result
+    ensures reads { MatchOption result
         ((n : ℕ) (is_unsigned : Bool) (rest : List TokenKind) → kinds tokens.now ≡ Number n is_unsigned ∷ rest → ⊥)
         (λ r. (is_unsigned : Bool) × (kinds tokens.now ≡ Number r.0 is_unsigned ∷ kinds r.1.now)) }
+    ensures word { IfSome result (λ r. r.0 < 2 ^ 32) }
 {
     let (first, rest) = tokens.split_first()?;
-    match first.kind {
-        TokenKind::Number { value, .. } => Some((value, rest)),
+    match &first.kind {
+        TokenKind::Number { value, .. } => Some((*value, rest)),
         _ => None,
     }
 }
@@ -164,12 +167,152 @@ fn read_kind(tokens: &[Token], wanted: TokenKind) -> Option<&[Token]>
         (λ rest. kinds tokens.now ≡ wanted ∷ kinds rest.now) }
 {
     let (first, rest) = tokens.split_first()?;
-    if first.kind == wanted { Some(rest) } else { None }
+    if first.kind == wanted {
+        Some(rest)
+    } else {
+        None
+    }
 }
 
-/// The laws of small tokens: tokens have one reading, and each word that they put out takes five
-/// of them and more. It does nothing.
+/// The laws of small tokens: tokens have one reading, each word that they put out takes five of
+/// them and more, and what they put out and return are words where the values of their constants
+/// are. It does nothing.
 pub fn small_tokens_laws()
     ensures one_reading { (tokens : List Token) (ns ms : List ℕ) (l k : ℕ) → IsSmallTokens tokens ns l → IsSmallTokens tokens ms k → (ns ≡ ms) × (l ≡ k) }
     ensures few { (tokens : List Token) (ns : List ℕ) (l : ℕ) → IsSmallTokens tokens ns l → 5 * length ns ≤ length tokens }
+    ensures words { (tokens : List Token) (ns : List ℕ) (l : ℕ) → All (λ t. IsWordKind t.kind) tokens → IsSmallTokens tokens ns l → AreWords ns × (l < 2 ^ 32) }
 {}
+
+#[cfg(test)]
+mod tests {
+    use super::*;
+    use std::alloc::AllocError;
+    use std::test::Fail;
+
+    const INT: TokenKind = TokenKind::Word(Keyword::Int);
+
+    const VOID: TokenKind = TokenKind::Word(Keyword::Void);
+
+    const RETURN: TokenKind = TokenKind::Word(Keyword::Return);
+
+    const MAIN: TokenKind = TokenKind::Name(0);
+
+    const IN_WORD: TokenKind = TokenKind::Name(1);
+
+    const OUT_WORD: TokenKind = TokenKind::Name(2);
+
+    const OTHER: TokenKind = TokenKind::Name(3);
+
+    const OPEN: TokenKind = TokenKind::Sign(Punct::OpenParen);
+
+    const CLOSE: TokenKind = TokenKind::Sign(Punct::CloseParen);
+
+    const BEGIN: TokenKind = TokenKind::Sign(Punct::OpenBrace);
+
+    const END: TokenKind = TokenKind::Sign(Punct::CloseBrace);
+
+    const STOP: TokenKind = TokenKind::Sign(Punct::Semicolon);
+
+    const MINUS: TokenKind = TokenKind::Sign(Punct::Minus);
+
+    const FIVE: TokenKind = TokenKind::Number {
+        value: 5,
+        is_unsigned: false,
+    };
+
+    const LAST: TokenKind = TokenKind::Number {
+        value: 4294967295,
+        is_unsigned: true,
+    };
+
+    /// Tokens of these kinds, all at one place.
+    fn tokens_of(
+        alloc: Global,
+        opening: &[TokenKind],
+        body: &[TokenKind],
+    ) -> Result<Vec<Token>, AllocError> {
+        let kinds = opening.iter().chain(body);
+        kinds
+            .map(|kind| Token {
+                kind: *kind,
+                at: 7,
+                length: 1,
+            })
+            .collect(alloc)
+    }
+
+    #[test]
+    fn reads_what_is_defined(rt: HostRuntime) -> Result<(), Fail> {
+        let none: &[u32] = &[];
+        let main: &[TokenKind] = &[INT, MAIN, OPEN, VOID, CLOSE, BEGIN];
+        let out: &[TokenKind] = &[INT, OUT_WORD, OPEN, VOID, CLOSE, BEGIN];
+        let other: &[TokenKind] = &[INT, OTHER, OPEN, VOID, CLOSE, BEGIN];
+        let bare: &[TokenKind] = &[INT, MAIN, OPEN, CLOSE, BEGIN];
+        let table: [(&[TokenKind], &[TokenKind], Option<(&[u32], u32)>); 25] = [
+            (main, &[RETURN, FIVE, STOP, END], Some((none, 5))),
+            (main, &[RETURN, LAST, STOP, END], Some((none, 4294967295))),
+            (
+                main,
+                &[
+                    RETURN, OPEN, OPEN, OPEN, FIVE, CLOSE, CLOSE, CLOSE, STOP, END,
+                ],
+                Some((none, 5)),
+            ),
+            (
+                main,
+                &[OUT_WORD, OPEN, FIVE, CLOSE, STOP, RETURN, LAST, STOP, END],
+                Some((&[5], 4294967295)),
+            ),
+            (
+                main,
+                &[
+                    OUT_WORD, OPEN, OPEN, LAST, CLOSE, CLOSE, STOP, OUT_WORD, OPEN, FIVE, CLOSE,
+                    STOP, RETURN, OPEN, FIVE, CLOSE, STOP, END,
+                ],
+                Some((&[4294967295, 5], 5)),
+            ),
+            (main, &[RETURN, FIVE, STOP], None),
+            (main, &[RETURN, FIVE, END], None),
+            (main, &[RETURN, STOP, END], None),
+            (main, &[RETURN, OTHER, STOP, END], None),
+            (main, &[RETURN, MINUS, FIVE, STOP, END], None),
+            (main, &[RETURN, OPEN, FIVE, STOP, END], None),
+            (main, &[RETURN, FIVE, CLOSE, STOP, END], None),
+            (main, &[RETURN, OPEN, OPEN, FIVE, CLOSE, STOP, END], None),
+            (main, &[RETURN, FIVE, STOP, END, END], None),
+            (main, &[RETURN, FIVE, STOP, RETURN, FIVE, STOP, END], None),
+            (
+                main,
+                &[RETURN, FIVE, STOP, OUT_WORD, OPEN, FIVE, CLOSE, STOP, END],
+                None,
+            ),
+            (main, &[OUT_WORD, OPEN, FIVE, CLOSE, STOP, END], None),
+            (main, &[OUT_WORD, FIVE, STOP, RETURN, FIVE, STOP, END], None),
+            (
+                main,
+                &[IN_WORD, OPEN, FIVE, CLOSE, STOP, RETURN, FIVE, STOP, END],
+                None,
+            ),
+            (
+                main,
+                &[
+                    OUT_WORD, OPEN, OPEN, FIVE, CLOSE, STOP, RETURN, FIVE, STOP, END,
+                ],
+                None,
+            ),
+            (main, &[], None),
+            (out, &[RETURN, FIVE, STOP, END], None),
+            (other, &[RETURN, FIVE, STOP, END], None),
+            (bare, &[RETURN, FIVE, STOP, END], None),
+            (&[], &[], None),
+        ];
+        for (opening, body, wanted) in table {
+            let tokens = tokens_of(rt.alloc(), opening, body)?;
+            let found = read_small_tokens(rt.alloc(), &tokens)?;
+            let told = found.as_ref().map(|s| (s.numbers.as_slice(), s.last));
+            assert_eq!(rt; told, wanted, "at {body:?}");
+        }
+        small_tokens_laws();
+        Ok(())
+    }
+}
