@@ -1,4 +1,4 @@
-use Rattle.std.proofs.Common.{[], ℕ, List, sym, subst, arith}
+use Rattle.std.proofs.Common.{[], ℕ, List, sym, subst}
 use Rattle.std.proofs.lemmas.List.{append-nil}
 use Rattle.hardcc_core.specs.SmallTokens.{kinds, IsBody}
 use Rattle.hardcc_core.specs.SmallWords.{AreWords}
