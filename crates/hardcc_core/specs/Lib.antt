@@ -1,4 +1,5 @@
 pub mod SmallText
+pub mod SmallTokens
 pub mod SmallWords
 pub mod Same
 pub mod Commands

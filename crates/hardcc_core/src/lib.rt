@@ -8,6 +8,7 @@ mod failure;
 mod laws;
 mod refusal_lines;
 mod small_text;
+mod small_tokens;
 mod tool;
 
 pub use compiler::{Refusal, compile};
