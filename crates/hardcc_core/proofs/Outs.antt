@@ -14,7 +14,8 @@ use Rattle.hardcc_core.specs.SmallWords.{service_words, small_words, small_field
 use Rattle.mips_isa.specs.Image.{boot_state}
 use Rattle.hardcc_core.proofs.Steps.{At, Goes, plan, one_step, writes}
 use Rattle.mips_isa.specs.Runs.{Ran, run, put_out, after_turn}
-use Rattle.mips_isa.proofs.Runs.{prefixed, front}
+use Rattle.mips_isa.specs.RunLaws.{prefixed}
+use Rattle.mips_isa.proofs.Runs.{front}
 
 pub quiet_step : (s next : State) (m : ℕ) → step s ≡ (next, None) → run s None (suc m) ≡ run next None m
 quiet_step s next m e = front s m ∙ ap (λ (t : State × Option ℕ). prefixed (put_out [] t.1) (run t.0 None m)) e
@@ -44,7 +45,7 @@ joined n = or_shifted (n / 2 ^ 16) 16 (n % 2 ^ 16) (omega arith) ∙ omega arith
 ready : (s : State) (words : List ℕ) (k n service : ℕ) → At s words k → n < 2 ^ 32 → service < 2 ^ 16 → length words ≤ 66060288 → IsAt words k (service_words n service) → Ready s words k n service
 ready s words k n service a nb sb lb is =
     let high : Goes s words k 4 (n / 2 ^ 16 * 2 ^ 16) =
-    writes s words k (Lui 4 (n / 2 ^ 16)) 4 (n / 2 ^ 16 * 2 ^ 16) a is.0 (omega arith) (decoded_word words k (Lui 4 (n / 2 ^ 16)) is.1 (lit< tt, omega arith)) (rw a.calm refl) refl (lit< tt) refl in
+    writes s words k (Lui 4 (n / 2 ^ 16)) 4 (n / 2 ^ 16 * 2 ^ 16) a is.0 (omega arith) (decoded_word words k (Lui 4 (n / 2 ^ 16)) is.1 (lit< tt, lit< tt, omega arith)) (rw a.calm refl) refl (lit< tt) refl in
     let low : Goes high.next words (suc k) 4 n =
     writes high.next words (suc k) (Ori 4 4 (n % 2 ^ 16)) 4 n high.at is.2.0 (omega arith) (decoded_word words (suc k) (Ori 4 4 (n % 2 ^ 16)) is.2.1 (lit< tt, lit< tt, omega arith)) (rw high.at.calm refl) (rw (high.value, joined n) refl) (lit< tt) refl in
     let call : Goes low.next words (suc (suc k)) 2 service =
@@ -59,7 +60,7 @@ ready s words k n service a nb sb lb is =
 
 -- the step of a syscall
 served : (s : State) (words : List ℕ) (k : ℕ) → At s words k → k < length words → slice_index words k ≡ encoding Syscall → step s ≡ service s
-served s words k a h e = one_step s a.goes ∙ ap (λ t. perform t s) (plan s words k Syscall a h (decoded_word words k Syscall e tt) (rw a.calm refl))
+served s words k a h e = one_step s a.goes ∙ ap (λ t. perform t s) (plan s words k Syscall a h (decoded_word words k Syscall e (lit< tt)) (rw a.calm refl))
 
 put_out_one : (s : State) (n : ℕ) → reg s 2 ≡ 1 → reg s 4 ≡ n → service s ≡ (moved s, Some n)
 put_out_one s n e f = rw (e, f) refl

@@ -27,12 +27,12 @@ back_to n steps h = omega arith
 
 -- once over, it stays so
 after : (s : State) (numbers : List ℕ) (last steps n : ℕ) → Over s numbers last steps → steps ≤ n → run s None n ≡ run s None steps
-after s numbers last steps n o h = subst (λ (k : ℕ). run s None k ≡ run s None steps) (back_to steps n h) (stays s (Exited last) steps (n - steps) o.end)
+after s numbers last steps n o h = subst (λ (k : ℕ). run s None k ≡ run s None steps) (back_to steps n h) (stays s None (Exited last) steps (n - steps) o.end)
 
 -- before that, a part is put out
 at_most : (s : State) (numbers : List ℕ) (last steps n : ℕ) → Over s numbers last steps → Prefix (run s None n).output numbers
 at_most s numbers last steps n o = elim (cases_lt n steps) [
-  | inl h ↦ subst (λ (l : List ℕ). Prefix (run s None n).output l) o.output (subst (λ (k : ℕ). Prefix (run s None n).output (run s None k).output) (back_to n steps (omega arith)) (grows s n (steps - n)))
+  | inl h ↦ subst (λ (l : List ℕ). Prefix (run s None n).output l) o.output (subst (λ (k : ℕ). Prefix (run s None n).output (run s None k).output) (back_to n steps (omega arith)) (grows s None n (steps - n)))
   | inr h ↦ ([], sym o.output ∙ (sym (ap (λ (r : Ran). r.output) (after s numbers last steps n o h)) ∙ sym (append-nil _)))
 ]
 
@@ -40,7 +40,7 @@ at_most s numbers last steps n o = elim (cases_lt n steps) [
 ended_so : (s : State) (numbers : List ℕ) (last steps n : ℕ) (e : End) → Over s numbers last steps → (run s None n).state.end ≡ Some e → (Exited last ≡ e) × (numbers ≡ (run s None n).output)
 ended_so s numbers last steps n e o h = elim (cases_lt n steps) [
   | inl l ↦
-      let same : run s None steps ≡ run s None n = subst (λ (k : ℕ). run s None k ≡ run s None n) (back_to n steps (omega arith)) (stays s e n (steps - n) h) in
+      let same : run s None steps ≡ run s None n = subst (λ (k : ℕ). run s None k ≡ run s None n) (back_to n steps (omega arith)) (stays s None e n (steps - n) h) in
       let e2 : Some (Exited last) ≡ Some e = sym o.end ∙ (ap (λ (r : Ran). r.state.end) same ∙ h) in
       (cc, sym o.output ∙ ap (λ (r : Ran). r.output) same)
   | inr l ↦

@@ -85,7 +85,7 @@ not_run held image input (Image error) (bytes, is, (fields, runnable)) from (oth
 not_run held image input LargeImage (bytes, is, (fields, runnable)) from (other, there, large) = omega (arith, ap length (same_bytes other bytes _ there is), runnable.short, large)
 not_run held image input (Input error) runnable (text, is, (numbers, from)) (again, (other, there, (short, refused))) =
     let same : other ≡ text = same_bytes other text _ there is in
-    let e : Ok numbers ≡ Err error = sym from.numbers ∙ (ap inputs (sym same) ∙ refused) in
+    let e : Ok numbers ≡ Err error = sym from.reads ∙ (ap inputs (sym same) ∙ refused) in
     cc
 not_run held image input LargeInput runnable (text, is, (numbers, from)) (again, (other, there, large)) = omega (arith, ap length (same_bytes other text _ there is), from.short, large)
 not_run held image input Shelf runnable from refused = refused

@@ -5,11 +5,10 @@ use Rattle.elf_image.specs.declared.read.ImageError.TheVariants as images
 use Rattle.hard_lines.specs.Inputs.{inputs}
 use Rattle.hard_lines.specs.declared.inputs.LinesError.{LinesError}
 use Rattle.hard_lines.specs.declared.inputs.LinesError.TheVariants as lines
-use Rattle.hard_shelf.specs.declared.shelf.ShelfError.{ShelfError}
-use Rattle.hard_shelf.specs.declared.shelf.ShelfError.TheVariants as shelves
 use Rattle.mips_isa.specs.Image.{ImageFields, boot_state}
 use Rattle.mips_isa.specs.Machine.{State}
 use Rattle.hardcc_core.specs.declared.compiler.Refusal.{Refusal}
+use Rattle.hardcc_core.specs.declared.compiler.Refusal.TheVariants as refusals
 use Rattle.hardcc_core.specs.declared.failure.Failure.{Failure}
 use Rattle.hardcc_core.specs.declared.failure.Failure.TheVariants.{Source, Image, LargeImage, Input, LargeInput, Shelf, Memory}
 use Rattle.hardcc_core.specs.Compiled.{IsRefused}
@@ -25,12 +24,10 @@ Explains R LargeInput = R LargeInput
 Explains R Shelf = Unit {0}
 Explains R Memory = Unit {0}
 
--- the failure where a file isn't taken, of which there is one of its own for a file that is too large
-abbrev pub shelf_failure : Failure → ShelfError → Failure
-shelf_failure large shelves.Absent = Shelf
-shelf_failure large shelves.TooLarge = large
-shelf_failure large shelves.Failed = Shelf
-shelf_failure large shelves.OutOfMemory = Memory
+-- the failure of a command where a part failed so
+abbrev pub source_failure : Refusal → Failure
+source_failure refusals.OutOfMemory = Memory
+source_failure refusal = Source refusal
 
 abbrev pub image_failure : ImageError → Failure
 image_failure images.OutOfMemory = Memory

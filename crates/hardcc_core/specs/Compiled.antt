@@ -1,24 +1,32 @@
 -- Which sources are accepted, why the others are refused, and what is promised of the image of a source.
-use Rattle.std.specs.Prelude.{ℕ, ◌≡◌, ◌<◌, ◌≤◌, ◌++◌, List, length, codes}
+use Rattle.std.specs.Prelude.{ℕ, ◌≡◌, ◌<◌, ◌≤◌, List, length, Ok, Err}
+use Rattle.c_lexer.specs.declared.token.Token.{Token}
+use Rattle.c_lexer.specs.Tokens.{Tokens}
 use Rattle.c_tree.specs.declared.tree.Program.{Program}
 use Rattle.c_tree.specs.Small.{SmallProgram}
 use Rattle.mips_isa.specs.Image.{ImageFields}
 use Rattle.elf_image.specs.Bounds.{Fits}
-use Rattle.elf_image.specs.Layout.{image_bytes}
+use Rattle.elf_image.specs.Held.{IsImage}
 use Rattle.hardcc_core.specs.declared.compiler.Refusal.{Refusal}
-use Rattle.hardcc_core.specs.declared.compiler.Refusal.TheVariants.{TooLong, NotYet, OutOfMemory}
-use Rattle.hardcc_core.specs.SmallText.{IsSmallText}
+use Rattle.hardcc_core.specs.declared.compiler.Refusal.TheVariants.{TooLong, Lex, NotYet, OutOfMemory}
+use Rattle.hardcc_core.specs.SmallTokens.{IsSmallTokens}
 use Rattle.hardcc_core.specs.Same.{Same}
 
 -- the greatest number of bytes of a source
 abbrev pub longest_source : ℕ
 longest_source = 1048576
 
+-- the source's tokens are of the small form, with these numbers and this last one
+pub record IsSmallSource (source numbers : List ℕ) (last : ℕ) : Type 0 where
+  pub tokens : List Token
+  pub lexed : Tokens source (Ok tokens)
+  pub small : IsSmallTokens tokens numbers last
+
 -- the source is the text of the program
 pub record IsSource (source : List ℕ) (program : Program) : Type 0 where
   pub numbers : List ℕ
   pub last : ℕ
-  pub text : IsSmallText source numbers last
+  pub text : IsSmallSource source numbers last
   pub tree : SmallProgram numbers last program
 
 -- an accepted source: it is short enough, and of the small form
@@ -26,25 +34,23 @@ pub record IsAccepted (source : List ℕ) : Type 0 where
   pub short : length source ≤ longest_source
   pub numbers : List ℕ
   pub last : ℕ
-  pub text : IsSmallText source numbers last
+  pub text : IsSmallSource source numbers last
 
--- why a source is refused: it is too long, or else it isn't of the small form
+-- Why a source is refused: it is too long; or else it has a fault in its tokens, the first; or else its tokens aren't of the
+-- small form.
 abbrev pub IsRefused : List ℕ → Refusal → Type 0
 IsRefused source TooLong = longest_source < length source
-IsRefused source NotYet = (length source ≤ longest_source) × ((numbers : List ℕ) (last : ℕ) → IsSmallText source numbers last → ⊥)
+IsRefused source (Lex error) = (length source ≤ longest_source) × Tokens source (Err error)
+IsRefused source NotYet = (length source ≤ longest_source)
+    × ((tokens : List Token) × (Tokens source (Ok tokens) × ((numbers : List ℕ) (last : ℕ) → IsSmallTokens tokens numbers last → ⊥)))
 IsRefused source OutOfMemory = ⊥
 
 -- why a source isn't compiled: it is refused, or there was no memory
 abbrev pub IsNotCompiled : List ℕ → Refusal → Type 0
 IsNotCompiled source TooLong = IsRefused source TooLong
+IsNotCompiled source (Lex error) = IsRefused source (Lex error)
 IsNotCompiled source NotYet = IsRefused source NotYet
 IsNotCompiled source OutOfMemory = Unit {0}
-
--- the line of a refusal
-abbrev pub refusal_line : Refusal → List ℕ
-refusal_line TooLong = codes "source refused: TooLong\n"
-refusal_line NotYet = codes "source refused: NotYet\n"
-refusal_line OutOfMemory = codes ""
 
 -- What is promised of the image that a source is compiled to: a file can hold it, and it does what the source's program does.
 pub record Compiles (source : List ℕ) (fields : ImageFields) : Type 0 where
@@ -56,5 +62,5 @@ pub record Compiles (source : List ℕ) (fields : ImageFields) : Type 0 where
 -- What is promised of the bytes of that image.
 pub record IsCompiled (source image : List ℕ) : Type 0 where
   pub fields : ImageFields
-  pub file : image ≡ image_bytes fields
+  pub file : IsImage image fields
   pub compiles : Compiles source fields

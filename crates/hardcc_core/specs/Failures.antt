@@ -2,8 +2,7 @@
 use Rattle.std.specs.Prelude.{ℕ, List, [], Option, Some, None}
 use Rattle.hardcc_core.specs.declared.failure.Failure.{Failure}
 use Rattle.hardcc_core.specs.declared.failure.Failure.TheVariants.{Source, Image, LargeImage, Input, LargeInput, Shelf, Memory}
-use Rattle.hardcc_core.specs.Compiled.{refusal_line}
-use Rattle.hardcc_core.specs.RefusalLines.{image_line, image_too_large, input_line, input_too_large}
+use Rattle.hardcc_core.specs.RefusalLines.{source_line, image_line, image_too_large, input_line, input_too_large}
 
 abbrev pub status_of : Failure → ℕ
 status_of (Source refusal) = 3
@@ -16,7 +15,7 @@ status_of Memory = 9
 
 -- the line that says so; nothing is said of the shelf and of memory
 abbrev pub line_of : Failure → List ℕ
-line_of (Source refusal) = refusal_line refusal
+line_of (Source refusal) = source_line refusal
 line_of (Image error) = image_line error
 line_of LargeImage = image_too_large
 line_of (Input error) = input_line error

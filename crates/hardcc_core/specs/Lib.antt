@@ -1,12 +1,10 @@
-pub mod SmallText
 pub mod SmallTokens
 pub mod SmallWords
 pub mod Same
 pub mod Commands
 pub mod Compiled
+pub mod CompileParts
 pub mod RefusalLines
-pub mod Outcomes
-pub mod Seen
 pub mod Failures
 pub mod Outcomes
 pub mod Causes

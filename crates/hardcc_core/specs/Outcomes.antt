@@ -41,7 +41,7 @@ pub record IsRunnable (bytes : List ℕ) (fields : ImageFields) : Type 0 where
 -- a text of these numbers, short enough to be read
 pub record IsInput (text numbers : List ℕ) : Type 0 where
   pub short : length text ≤ longest_input
-  pub numbers : inputs text ≡ Ok numbers
+  pub reads : inputs text ≡ Ok numbers
 
 -- the source under a name is refused, and why
 abbrev pub RefusesSource : Held → List ℕ → Failure → Type 0

@@ -4,6 +4,11 @@ use Rattle.fault_replay.specs.Show.{line}
 use Rattle.elf_image.specs.declared.read.ImageError.{ImageError}
 use Rattle.elf_image.specs.declared.read.ImageError.TheVariants.{Truncated, NotElf, NotMips, BadHeader, BadSegment, BadSection, TrailingBytes, OutOfMemory}
 use Rattle.hard_lines.specs.declared.inputs.LinesError.{LinesError}
+use Rattle.c_lexer.specs.declared.error.LexError.TheVariants as lexer
+use Rattle.c_lexer.specs.declared.error.LexError.TheVariants.{BadToken, LiteralTooLarge, CommentOpen}
+use Rattle.hardcc_core.specs.declared.compiler.Refusal.{Refusal}
+use Rattle.hardcc_core.specs.declared.compiler.Refusal.TheVariants as refusals
+use Rattle.hardcc_core.specs.declared.compiler.Refusal.TheVariants.{TooLong, Lex, NotYet}
 use Rattle.hard_lines.specs.declared.inputs.LinesError.TheVariants.{BadNumber, TooMany, OutOfMemory as NoMemory}
 
 -- a cause, with how many bytes it needs and how many there are
@@ -38,3 +43,13 @@ input_too_large = line (codes "input refused: too large")
 -- Why a source is refused, and the offset of the byte where it is.
 unfoldable pub source_line_at : List ℕ → ℕ → List ℕ
 source_line_at kind at = line (codes "source refused: " ++ kind ++ codes " at " ++ decimal at)
+
+-- Why a source is refused; nothing is said of want of memory.
+unfoldable pub source_line : Refusal → List ℕ
+source_line TooLong = line (codes "source refused: TooLong")
+source_line (Lex (BadToken at)) = source_line_at (codes "BadToken") at
+source_line (Lex (LiteralTooLarge at)) = source_line_at (codes "LiteralTooLarge") at
+source_line (Lex (CommentOpen at)) = source_line_at (codes "CommentOpen") at
+source_line (Lex lexer.OutOfMemory) = []
+source_line NotYet = line (codes "source refused: NotYet")
+source_line refusals.OutOfMemory = []

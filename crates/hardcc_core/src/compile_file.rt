@@ -2,7 +2,7 @@
 
 ghost use Rattle.std.specs.Prelude.{◌≡◌, ◌≢◌, ◌⊎◌, ◌≤◌, Some, None, IsTrue, IfOk, IfErr, OnOk, IsErrOf};
 ghost use Rattle.hard_shelf.specs.Outside.{Rose, SameNames, SameOthers};
-ghost use Rattle.hardcc_core.specs.Causes.{Explains, RefusesBytes};
+ghost use Rattle.hardcc_core.specs.Causes.{Explains, RefusesBytes, source_failure};
 ghost use Rattle.hardcc_core.specs.Compiled.{IsAccepted, IsCompiled};
 ghost use Rattle.hardcc_core.specs.Outcomes.{Holds, RefusesSource};
 
@@ -64,13 +64,20 @@ fn compiled(alloc: Global, source: &[u8]) -> Result<Vec<u8>, Failure>
 {
     let image = match compile(alloc, source) {
         Ok(image) => image,
-        Err(Refusal::OutOfMemory) => return Err(Failure::Memory),
-        Err(Refusal::TooLong) => return Err(Failure::Source(Refusal::TooLong)),
-        Err(Refusal::NotYet) => return Err(Failure::Source(Refusal::NotYet)),
+        Err(refusal) => return Err(source_failure(refusal)),
     };
     match write_image(alloc, &image) {
         Ok(file) => Ok(file),
         Err(OutOfMemory) => Err(Failure::Memory),
+    }
+}
+
+fn source_failure(refusal: Refusal) -> Failure
+    ensures { result ≡ source_failure refusal }
+{
+    match refusal {
+        Refusal::OutOfMemory => Failure::Memory,
+        _ => Failure::Source(refusal),
     }
 }
 

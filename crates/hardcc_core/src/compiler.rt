@@ -3,9 +3,11 @@
 ghost use Rattle.std.specs.Prelude.{◌≡◌, ◌≤◌, ◌+◌, ◌*◌, ◌++◌, ℕ, List, IfOk, OnOk, IfErr, length};
 ghost use Rattle.elf_image.specs.Layout.{fields_of};
 ghost use Rattle.hardcc_core.specs.Compiled.{IsAccepted, IsNotCompiled, Compiles};
+ghost use Rattle.hardcc_core.specs.CompileParts.{lexer_refusal, IsImageOf, RefusesTokens};
 ghost use Rattle.hardcc_core.specs.SmallWords.{small_words, small_fields, service_words};
 
-use crate::small_text::{SmallText, read_small};
+use crate::small_tokens::{SmallText, read_small_tokens};
+use c_lexer::{LexError, Token, tokens};
 use elf_image::{Aliases, Image, Windows};
 use hard_words::{OutOfMemory, Words};
 use mips_isa::{Instr, encode};
@@ -18,6 +20,9 @@ pub enum Refusal {
     /// The source has more than 1,048,576 bytes.
     #[error("the source is too long")]
     TooLong,
+    /// The source has a fault in its tokens, of which this is the first.
+    #[error("{0}")]
+    Lex(LexError),
     /// The source is not of the small form that is compiled so far.
     #[error("the source is not of the form that is compiled so far")]
     NotYet,
@@ -33,8 +38,8 @@ const EXIT: u16 = 17;
 
 /// The image of a source of at most 1,048,576 bytes: the source's program as words for the machine.
 ///
-/// A source is accepted exactly where it is of the small form: `int main(void){`, calls `out_word(N);`,
-/// `return N;` and `}`.
+/// A source is accepted exactly where its tokens are of the small form: `int main ( void ) {`, calls
+/// `out_word ( N ) ;`, `return N ;` and `}`, where N is a constant, in parentheses or not.
 pub fn compile(alloc: Global, source: &[u8]) -> Result<Image, Refusal>
     ensures ok { IfOk result (λ image. Compiles source.now (fields_of image)) }
     ensures accepted { IfOk result (λ image. IsAccepted source.now) }
@@ -43,7 +48,27 @@ pub fn compile(alloc: Global, source: &[u8]) -> Result<Image, Refusal>
     if source.len() > 1_048_576 {
         return Err(Refusal::TooLong);
     }
-    match read_small(alloc, source) {
+    match tokens(alloc, source) {
+        Err(error) => Err(lexer_refusal(error)),
+        Ok(tokens) => compile_tokens(alloc, &tokens),
+    }
+}
+
+fn lexer_refusal(error: LexError) -> Refusal
+    ensures { result ≡ lexer_refusal error }
+{
+    match error {
+        LexError::OutOfMemory => Refusal::OutOfMemory,
+        _ => Refusal::Lex(error),
+    }
+}
+
+// The image of the tokens of a source.
+fn compile_tokens(alloc: Global, tokens: &[Token]) -> Result<Image, Refusal>
+    ensures ok { IfOk result (λ image. IsImageOf tokens.now (fields_of image)) }
+    ensures refused { IfErr result (λ refusal. RefusesTokens tokens.now refusal) }
+{
+    match read_small_tokens(alloc, tokens) {
         Err(OutOfMemory) => Err(Refusal::OutOfMemory),
         Ok(None) => Err(Refusal::NotYet),
         Ok(Some(small)) => match image_of(alloc, &small) {

@@ -2,11 +2,10 @@
 
 ghost use Rattle.std.specs.Prelude.{◌≡◌, ◌≢◌, ◌⊎◌, ◌++◌, [], IsTrue};
 ghost use Rattle.hard_shelf.specs.Outside.{Rose, AppendsPart};
-ghost use Rattle.hardcc_core.specs.Compiled.{refusal_line};
 ghost use Rattle.hardcc_core.specs.Failures.{line_of, status_of};
 
 use crate::compiler::Refusal;
-use crate::refusal_lines::{image_line, image_too_large, input_line, input_too_large};
+use crate::refusal_lines::{image_line, image_too_large, input_line, input_too_large, source_line};
 use elf_image::ImageError;
 use hard_lines::LinesError;
 use hard_shelf::Sink;
@@ -46,23 +45,13 @@ pub(crate) fn report<O: Sink>(out: &mut O, failure: Failure) -> u8
     ensures silent { (status_of failure ≡ 7) ⊎ (status_of failure ≡ 9) → result ≡ status_of failure }
 {
     match failure {
-        Failure::Source(refusal) => say(out, source_line(refusal), 3),
+        Failure::Source(refusal) => say(out, source_line(refusal).as_slice(), 3),
         Failure::Image(error) => say(out, image_line(error).as_slice(), 4),
         Failure::LargeImage => say(out, image_too_large(), 4),
         Failure::Input(error) => say(out, input_line(error).as_slice(), 6),
         Failure::LargeInput => say(out, input_too_large(), 6),
         Failure::Shelf => 7,
         Failure::Memory => 9,
-    }
-}
-
-fn source_line(refusal: Refusal) -> &'static [u8]
-    ensures { result.now ≡ refusal_line refusal }
-{
-    match refusal {
-        Refusal::TooLong => b"source refused: TooLong\n",
-        Refusal::NotYet => b"source refused: NotYet\n",
-        Refusal::OutOfMemory => b"",
     }
 }
 

@@ -7,12 +7,12 @@ mod compiler;
 mod failure;
 mod laws;
 mod refusal_lines;
-mod small_text;
+mod run_file;
 mod small_tokens;
 mod tool;
 
 pub use compiler::{Refusal, compile};
 pub use failure::Failure;
 pub use laws::{small_same, straight_line};
-pub use small_text::small_text_laws;
+pub use small_tokens::small_tokens_laws;
 pub use tool::run_tool;

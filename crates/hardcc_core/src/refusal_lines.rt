@@ -2,9 +2,11 @@
 
 ghost use Rattle.std.specs.Prelude.{◌≡◌, ◌+◌, ◌≤◌, ◌++◌, length, decimal};
 ghost use Rattle.fault_replay.specs.Show.{line};
-ghost use Rattle.hardcc_core.specs.RefusalLines.{need_and_have, image_line, image_too_large, input_line, input_too_large, source_line_at};
+ghost use Rattle.hardcc_core.specs.RefusalLines.{source_line, need_and_have, image_line, image_too_large, input_line, input_too_large, source_line_at};
 
+use crate::compiler::Refusal;
 use arrayvec::ArrayVec;
+use c_lexer::LexError;
 use elf_image::ImageError;
 use hard_lines::LinesError;
 use itoa::Buffer;
@@ -71,9 +73,24 @@ pub(crate) fn input_too_large() -> &'static [u8]
     b"input refused: too large\n"
 }
 
+/// The line of why a source is refused; empty for want of memory.
+#[tactic(auto, unfolding(crate::specs::RefusalLines::source_line))]
+pub(crate) fn source_line(refusal: Refusal) -> Line
+    ensures { result.items ≡ source_line refusal }
+{
+    match refusal {
+        Refusal::TooLong => plain_line(b"source refused: TooLong"),
+        Refusal::Lex(LexError::BadToken { at }) => source_line_at(b"BadToken", at),
+        Refusal::Lex(LexError::LiteralTooLarge { at }) => source_line_at(b"LiteralTooLarge", at),
+        Refusal::Lex(LexError::CommentOpen { at }) => source_line_at(b"CommentOpen", at),
+        Refusal::NotYet => plain_line(b"source refused: NotYet"),
+        Refusal::Lex(LexError::OutOfMemory) | Refusal::OutOfMemory => ArrayVec::new(),
+    }
+}
+
 /// The line of why a source is refused, a kind of at most 32 bytes, and of the offset of the byte where it is.
 #[tactic(auto, unfolding(crate::specs::RefusalLines::source_line_at))]
-pub(crate) fn source_line_at(kind: &[u8], at: u32) -> Line
+fn source_line_at(kind: &[u8], at: u32) -> Line
     requires { length kind.now ≤ 32 }
     ensures { result.items ≡ source_line_at kind.now at }
 {

@@ -8,10 +8,18 @@ ghost use Rattle.c_lexer.specs.declared.token.Punct.TheVariants.{OpenParen, Clos
 ghost use Rattle.hardcc_core.specs.SmallTokens.{kinds, IsWordKind, Constant, Statement, IsEnd, IsBody, IsSmallTokens};
 ghost use Rattle.hardcc_core.specs.SmallWords.{AreWords};
 
-use crate::small_text::SmallText;
 use c_lexer::{Keyword, Punct, Token, TokenKind};
 use hard_words::{OutOfMemory, Words};
 use std::alloc::Global;
+
+/// What a small text says: the words that it puts out in order, and the word that it returns.
+#[derive(Debug, Drop)]
+pub(crate) struct SmallText {
+    /// The words that it puts out.
+    pub(crate) numbers: Words,
+    /// The word that it returns.
+    pub(crate) last: u32,
+}
 
 /// Reads the tokens of a small text: `int main ( void ) {`, any number of `out_word ( N ) ;`,
 /// `return N ;` and `}`.
@@ -23,7 +31,10 @@ use std::alloc::Global;
 /// # Errors
 ///
 /// `OutOfMemory`, where there is no memory for the numbers.
-pub fn read_small_tokens(alloc: Global, tokens: &[Token]) -> Result<Option<SmallText>, OutOfMemory>
+pub(crate) fn read_small_tokens(
+    alloc: Global,
+    tokens: &[Token],
+) -> Result<Option<SmallText>, OutOfMemory>
     ensures found { IfOk result (λ o. IfSome o (λ s. IsSmallTokens tokens.now s.numbers s.last)) }
     ensures none { IfOk result (λ o. IsNone o → (numbers : List ℕ) (last : ℕ) → IsSmallTokens tokens.now numbers last → ⊥) }
     ensures words { IfOk result (λ o. IfSome o (λ s. AreWords s.numbers × (s.last < 2 ^ 32))) }
