@@ -6,8 +6,7 @@ ghost use Rattle.mips_isa.specs.Machine.{State, act_reg, planned, perform, step,
 ghost use Rattle.mips_machine.specs.View.{state_of, jumped};
 
 use crate::Machine;
-use mips_isa::{is_jump, is_product, reads_register};
-use mips_isa::{Act, End, Instr, decode};
+use mips_isa::{Act, End, Instr, decode, is_jump, is_product, reads_register};
 
 // Where the text begins.
 const TEXT_START: u32 = 0x0040_0000;
