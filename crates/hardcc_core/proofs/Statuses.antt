@@ -1,5 +1,5 @@
 -- The status of a call, by what its command was and how it went.
-use Rattle.std.proofs.Common.{◌≡◌, ◌≢◌, ℕ, ◌≤◌, ◌<◌, List, length, arith, refl, sym, ◌∙◌, ap, subst, inl, inr}
+use Rattle.std.proofs.Common.{◌≡◌, ◌≢◌, ℕ, ◌≤◌, ◌<◌, List, length, ◌++◌, arith, refl, sym, ◌∙◌, ap, subst, inl, inr}
 use Rattle.std.specs.Prelude.{◌⊎◌, Option, Some, None, Result, Ok, Err, OnOk, IfOk, IfErr, IsErrOf}
 use Rattle.elf_image.specs.declared.read.ImageError.{ImageError}
 use Rattle.elf_image.specs.declared.read.ImageError.TheVariants as images
@@ -11,13 +11,16 @@ use Rattle.hard_lines.specs.declared.inputs.LinesError.{LinesError}
 use Rattle.hard_lines.specs.declared.inputs.LinesError.TheVariants as lines
 use Rattle.mips_isa.specs.Image.{ImageFields, boot_state}
 use Rattle.mips_isa.specs.Machine.{State}
+use Rattle.mips_isa.specs.Runs.{run}
+use Rattle.fault_replay.specs.Show.{shown}
+use Rattle.hard_shelf.specs.Outside.{AppendsPart}
 use Rattle.hardcc_core.specs.declared.compiler.Refusal.{Refusal}
 use Rattle.hardcc_core.specs.declared.failure.Failure.{Failure}
 use Rattle.hardcc_core.specs.declared.failure.Failure.TheVariants.{Source, Image, LargeImage, Input, LargeInput, Shelf, Memory}
 use Rattle.hardcc_core.specs.Commands.{Command, Compile, Run}
 use Rattle.hardcc_core.specs.Compiled.{IsRefused, IsAccepted}
-use Rattle.hardcc_core.specs.Outcomes.{Held, Holds, Accepts, Misses, Refuses, RefusesSource, RefusesRun, HoldsImage, IsRunnable, IsInput, longest_image, longest_input}
-use Rattle.hardcc_core.specs.Failures.{status_of}
+use Rattle.hardcc_core.specs.Outcomes.{Held, Holds, Accepts, Misses, Refuses, RefusesSource, RefusesRun, HoldsImage, IsRunnable, IsInput, Says, longest_image, longest_input}
+use Rattle.hardcc_core.specs.Failures.{status_of, line_of}
 use Rattle.hardcc_core.specs.Causes.{Explains, RefusesBytes, RefusesInput, Starts, image_failure, input_failure}
 use Rattle.hardcc_core.proofs.SmallImage.{not_both}
 
@@ -176,3 +179,75 @@ is_refused T held command given (Err (Input r)) status failure e told refused ac
 is_refused T held command given (Err LargeInput) status failure e told refused accepted explained err = same_status held command status LargeInput failure (explained told) (subst (λ (o : Option Command). Refuses held o failure) e refused) err
 is_refused T held command given (Err Shelf) status failure e told refused accepted explained err = elim err [ inl h ↦ inr (inl h) | inr h ↦ inr (inr (inl h)) ]
 is_refused T held command given (Err Memory) status failure e told refused accepted explained err = elim err [ inl h ↦ inr (inr (inr h)) | inr h ↦ inr (inr (inl h)) ]
+
+-- ---- what is said of a run
+
+-- what holds of a result also holds of what follows from it
+pub if_ok : {A B : Type 0} (r : Result A B) (P Q : A → Type 0) → ((a : A) → P a → Q a) → IfOk r P → IfOk r Q
+if_ok (Ok a) P Q f h = f a h
+if_ok (Err b) P Q f h = tt
+
+pub if_err : {A B : Type 0} (r : Result A B) (P Q : B → Type 0) → ((b : B) → P b → Q b) → IfErr r P → IfErr r Q
+if_err (Ok a) P Q f h = tt
+if_err (Err b) P Q f h = f b h
+
+pub on_ok : {A B : Type 0} (r : Result A B) (P : Type 0) → OnOk r P → IfOk r (λ a. P)
+on_ok (Ok a) P h = h
+on_ok (Err b) P h = tt
+
+-- a failure that is neither the shelf's nor memory's is a refusal
+refusal_of : (R : Failure → Type 0) (failure : Failure) → Explains R failure → ((status_of failure ≡ 7) ⊎ (status_of failure ≡ 9) → ⊥) → R failure
+refusal_of R (Source r) explained other = explained
+refusal_of R (Image r) explained other = explained
+refusal_of R LargeImage explained other = explained
+refusal_of R (Input r) explained other = explained
+refusal_of R LargeInput explained other = explained
+refusal_of R Shelf explained other = absurd (other (inl refl))
+refusal_of R Memory explained other = absurd (other (inr refl))
+
+pub starts_accepts : (held : Held) (image input : List ℕ) (steps : ℕ) (state : State) → Starts held image input state → Accepts held (Some (Run image input steps))
+starts_accepts held image input steps state (bytes, is, (fields, runnable, (text, there, (numbers, from, e)))) = ((bytes, is, (fields, runnable)), (text, there, (numbers, from)))
+
+-- what is said of a run that starts is the run from its start
+starts_prints : (held : Held) (image input : List ℕ) (steps : ℕ) (state : State) → Starts held image input state → Says held (Some (Run image input steps)) (shown (run state None steps))
+starts_prints held image input steps state (bytes, is, (fields, runnable, (text, there, (numbers, from, e)))) =
+    inr (bytes, is, (fields, runnable, (text, there, (numbers, from, ap (λ (s : State). shown (run s None steps)) e))))
+
+said_status : (s : ℕ) → (s ≡ 0) ⊎ (s ≡ 2) ⊎ (s ≡ 3) ⊎ (s ≡ 4) ⊎ (s ≡ 6) → ((s ≡ 8) ⊎ (s ≡ 7) ⊎ (s ≡ 9) → ⊥)
+said_status s h = λ k. grind arith
+
+-- where a run is said, the text is that of the run, or that of the refusal
+pub run_said : {A : Type 0} (T U : Type 0) (state : A → State) (held : Held) (image input : List ℕ) (steps : ℕ) (given : Option Command) (work : Result A Failure) (status : ℕ) (old new : List ℕ)
+    → given ≡ Some (Run image input steps) → T → U
+    → IfOk work (λ a. T → Starts held image input (state a)) → IfErr work (λ f. T → Explains (RefusesRun held image input) f)
+    → IfOk work (λ a. (status ≡ 0) ⊎ (status ≡ 8)) → IfErr work (λ f. (status ≡ status_of f) ⊎ (status ≡ 8))
+    → IfOk work (λ a. status ≡ 0 → U → new ≡ old ++ shown (run (state a) None steps)) → IfErr work (λ f. status ≡ status_of f → U → new ≡ old ++ line_of f)
+    → (status ≡ 0) ⊎ (status ≡ 2) ⊎ (status ≡ 3) ⊎ (status ≡ 4) ⊎ (status ≡ 6) → (text : List ℕ) × Says held given text × (new ≡ old ++ text)
+run_said T U state held image input steps given (Ok a) status old new e told tells starts explained ok err written err_written is =
+    (shown (run (state a) None steps),
+     subst (λ (o : Option Command). Says held o (shown (run (state a) None steps))) (sym e) (starts_prints held image input steps (state a) (starts told)),
+     elim ok [ inl zero ↦ written zero tells | inr eight ↦ absurd (said_status status is (inl eight)) ])
+run_said T U state held image input steps given (Err f) status old new e told tells starts explained ok err written err_written is = elim err [
+  | inl h ↦
+      let refused : RefusesRun held image input f = refusal_of (RefusesRun held image input) f (explained told) (λ k. elim k [ inl seven ↦ said_status status is (inr (inl (h ∙ seven))) | inr nine ↦ said_status status is (inr (inr (h ∙ nine))) ]) in
+      (line_of f, subst (λ (o : Option Command). Says held o (line_of f)) (sym e) (inl (f, refused, refl)), err_written h tells)
+  | inr eight ↦ absurd (said_status status is (inl eight))
+]
+
+not_eight : (a s : ℕ) → (a ≡ 7) ⊎ (a ≡ 9) → s ≡ a → s ≡ 8 → ⊥
+not_eight a s k g h = grind arith
+
+-- where the sink fails, a part of that text stands
+pub run_part : {A : Type 0} (T U : Type 0) (state : A → State) (held : Held) (image input : List ℕ) (steps : ℕ) (given : Option Command) (work : Result A Failure) (status : ℕ) (old new : List ℕ)
+    → given ≡ Some (Run image input steps) → T → U
+    → IfOk work (λ a. T → Starts held image input (state a)) → IfErr work (λ f. T → Explains (RefusesRun held image input) f)
+    → IfErr work (λ f. (status_of f ≡ 7) ⊎ (status_of f ≡ 9) → status ≡ status_of f)
+    → IfOk work (λ a. status ≡ 8 → U → AppendsPart old new (shown (run (state a) None steps))) → IfErr work (λ f. status ≡ 8 → U → AppendsPart old new (line_of f))
+    → status ≡ 8 → (text : List ℕ) × Says held given text × AppendsPart old new text
+run_part T U state held image input steps given (Ok a) status old new e told tells starts explained silent part err_part eight =
+    (shown (run (state a) None steps),
+     subst (λ (o : Option Command). Says held o (shown (run (state a) None steps))) (sym e) (starts_prints held image input steps (state a) (starts told)),
+     part eight tells)
+run_part T U state held image input steps given (Err f) status old new e told tells starts explained silent part err_part eight =
+    let refused : RefusesRun held image input f = refusal_of (RefusesRun held image input) f (explained told) (λ k. not_eight (status_of f) status k (silent k) eight) in
+    (line_of f, subst (λ (o : Option Command). Says held o (line_of f)) (sym e) (inl (f, refused, refl)), err_part eight tells)
