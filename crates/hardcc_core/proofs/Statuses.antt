@@ -223,10 +223,11 @@ pub run_said : {A : Type 0} (T U : Type 0) (state : A → State) (held : Held) (
     → IfOk work (λ a. (status ≡ 0) ⊎ (status ≡ 8)) → IfErr work (λ f. (status ≡ status_of f) ⊎ (status ≡ 8))
     → IfOk work (λ a. status ≡ 0 → U → new ≡ old ++ shown (run (state a) None steps)) → IfErr work (λ f. status ≡ status_of f → U → new ≡ old ++ line_of f)
     → (status ≡ 0) ⊎ (status ≡ 2) ⊎ (status ≡ 3) ⊎ (status ≡ 4) ⊎ (status ≡ 6) → (text : List ℕ) × Says held given text × (new ≡ old ++ text)
-run_said T U state held image input steps given (Ok a) status old new e told tells starts explained ok err written err_written is =
-    (shown (run (state a) None steps),
-     subst (λ (o : Option Command). Says held o (shown (run (state a) None steps))) (sym e) (starts_prints held image input steps (state a) (starts told)),
-     elim ok [ inl zero ↦ written zero tells | inr eight ↦ absurd (said_status status is (inl eight)) ])
+run_said T U state held image input steps given (Ok a) status old new e told tells starts explained ok err written err_written is = (
+  shown (run (state a) None steps),
+  subst (λ (o : Option Command). Says held o (shown (run (state a) None steps))) (sym e) (starts_prints held image input steps (state a) (starts told)),
+  elim ok [ inl zero ↦ written zero tells | inr eight ↦ absurd (said_status status is (inl eight)) ],
+)
 run_said T U state held image input steps given (Err f) status old new e told tells starts explained ok err written err_written is = elim err [
   | inl h ↦
       let refused : RefusesRun held image input f = refusal_of (RefusesRun held image input) f (explained told) (λ k. elim k [ inl seven ↦ said_status status is (inr (inl (h ∙ seven))) | inr nine ↦ said_status status is (inr (inr (h ∙ nine))) ]) in
@@ -244,10 +245,11 @@ pub run_part : {A : Type 0} (T U : Type 0) (state : A → State) (held : Held) (
     → IfErr work (λ f. (status_of f ≡ 7) ⊎ (status_of f ≡ 9) → status ≡ status_of f)
     → IfOk work (λ a. status ≡ 8 → U → AppendsPart old new (shown (run (state a) None steps))) → IfErr work (λ f. status ≡ 8 → U → AppendsPart old new (line_of f))
     → status ≡ 8 → (text : List ℕ) × Says held given text × AppendsPart old new text
-run_part T U state held image input steps given (Ok a) status old new e told tells starts explained silent part err_part eight =
-    (shown (run (state a) None steps),
-     subst (λ (o : Option Command). Says held o (shown (run (state a) None steps))) (sym e) (starts_prints held image input steps (state a) (starts told)),
-     part eight tells)
+run_part T U state held image input steps given (Ok a) status old new e told tells starts explained silent part err_part eight = (
+  shown (run (state a) None steps),
+  subst (λ (o : Option Command). Says held o (shown (run (state a) None steps))) (sym e) (starts_prints held image input steps (state a) (starts told)),
+  part eight tells,
+)
 run_part T U state held image input steps given (Err f) status old new e told tells starts explained silent part err_part eight =
     let refused : RefusesRun held image input f = refusal_of (RefusesRun held image input) f (explained told) (λ k. not_eight (status_of f) status k (silent k) eight) in
     (line_of f, subst (λ (o : Option Command). Says held o (line_of f)) (sym e) (inl (f, refused, refl)), err_part eight tells)

@@ -9,6 +9,8 @@ mod laws;
 mod refusal_lines;
 mod run_file;
 mod small_tokens;
+#[cfg(test)]
+mod tests;
 mod tool;
 
 pub use compiler::{Refusal, compile};

@@ -9,10 +9,10 @@ use Rattle.hardcc_core.proofs.compiler.compile.Goals as goal
 pub returns-in-Ok-clause-ok : goal.returns-in-Ok-clause-ok
 returns-in-Ok-clause-ok c =
     if_ok c.compile_tokens.result _ _ (λ image of. compiles c.args.source.now c.deref.result.now _ (omega arith)
-      (subst (λ (ts : List Token). Tokens c.args.source.now (Ok ts)) (sym c.deref.ensures.value) c.in-Ok.ensures.ok)
-      (subst (λ (ts : List Token). ArePlaced 0 ts (length c.args.source.now)) (sym c.deref.ensures.value) c.in-Ok.ensures.placed) of) c.compile_tokens.ensures.ok
+    (subst (λ (ts : List Token). Tokens c.args.source.now (Ok ts)) (sym c.deref.ensures.value) c.in-Ok.ensures.ok)
+    (subst (λ (ts : List Token). ArePlaced 0 ts (length c.args.source.now)) (sym c.deref.ensures.value) c.in-Ok.ensures.placed) of) c.compile_tokens.ensures.ok
 
 pub returns-in-Ok-clause-refused : goal.returns-in-Ok-clause-refused
 returns-in-Ok-clause-refused c =
     if_err c.compile_tokens.result _ _ (λ refusal refused. tokens_refused c.args.source.now c.deref.result.now refusal (omega arith)
-      (subst (λ (ts : List Token). Tokens c.args.source.now (Ok ts)) (sym c.deref.ensures.value) c.in-Ok.ensures.ok) refused) c.compile_tokens.ensures.refused
+    (subst (λ (ts : List Token). Tokens c.args.source.now (Ok ts)) (sym c.deref.ensures.value) c.in-Ok.ensures.ok) refused) c.compile_tokens.ensures.refused
