@@ -8,6 +8,7 @@ mod failure;
 mod laws;
 mod refusal_lines;
 mod run_file;
+mod small_program;
 mod small_tokens;
 #[cfg(test)]
 mod tests;
