@@ -12,49 +12,22 @@ use Rattle.mips_isa.specs.Image.{ImageFields}
 use Rattle.elf_image.specs.Bounds.{Fits, is_in_text}
 use Rattle.elf_image.specs.Layout.{data_at, sections_at, sizes_of}
 use Rattle.hardcc_core.specs.declared.compiler.Refusal.{Refusal}
-use Rattle.hardcc_core.specs.declared.compiler.Refusal.TheVariants.{TooLong, Lex, NotYet, OutOfMemory}
+use Rattle.hardcc_core.specs.declared.compiler.Refusal.TheVariants.{TooLong, Lex, Parse, NotYet, OutOfMemory}
 use Rattle.c_lexer.specs.declared.token.Token.{Token}
 use Rattle.c_lexer.specs.declared.error.LexError.{LexError}
 use Rattle.c_lexer.specs.declared.error.LexError.TheVariants as lexer
 use Rattle.c_lexer.specs.Tokens.{Tokens, ArePlaced}
 use Rattle.c_lexer.proofs.OneResult.{one_result}
-use Rattle.hardcc_core.specs.SmallTokens.{IsSmallTokens}
-use Rattle.hardcc_core.specs.CompileParts.{lexer_refusal, IsImageOf, RefusesTokens}
+use Rattle.c_parser.specs.declared.program.ParseError.{ParseError}
+use Rattle.c_parser.specs.declared.program.ParseError.TheVariants as parser
+use Rattle.c_parser.specs.Items.{Tree}
+use Rattle.c_parser.specs.Order.{InOrder}
+use Rattle.c_parser.proofs.Programs.{one_tree}
+use Rattle.c_tree.specs.Sizes.{program_depth, program_nodes}
+use Rattle.hardcc_core.specs.CompileParts.{lexer_refusal, IsImageOf, IsImageOfTokens, RefusesTokens}
 use Rattle.hardcc_core.specs.SmallWords.{AreWords, small_words, small_fields}
-use Rattle.hardcc_core.specs.Compiled.{IsSource, IsSmallSource, IsAccepted, IsRefused, IsNotCompiled, Compiles}
-use Rattle.hardcc_core.proofs.TokenReadings.{few}
+use Rattle.hardcc_core.specs.Compiled.{IsSource, IsAccepted, IsRefused, IsNotCompiled, HasNoTree, Compiles}
 use Rattle.hardcc_core.proofs.SmallSame.{small_same}
-
--- ---- a program of the small form
-
-call_of : ℕ → Stmt
-call_of n = Value (Call 2 (Literal n false 0 ∷ []) 0)
-
-calls_of : List ℕ → List Stmt
-calls_of [] = []
-calls_of (n ∷ ns) = call_of n ∷ calls_of ns
-
-literal_is : (n : ℕ) → literal (Literal n false 0) ≡ Some n
-literal_is n = simp the_lemmas
-
-outputs : (ns : List ℕ) → Outputs ns (calls_of ns)
-unfolding calls_of call_of
-outputs [] = tt
-outputs (n ∷ ns) = (record { argument = Literal n false 0; at = 0; is = refl; word = literal_is n }, outputs ns)
-
-program_of : List ℕ → ℕ → Program
-program_of ns last = record { items = item.Function (record { ty = Int; name = 0; at = 0; params = []; body = Some (calls_of ns ++ Return (Some (Literal last false 0)) 0 ∷ []) }) ∷ [] }
-
-is_small : (ns : List ℕ) (last : ℕ) → SmallProgram ns last (program_of ns last)
-unfolding program_of
-is_small ns last = record {
-  outputs = calls_of ns;
-  end = Return (Some (Literal last false 0)) 0;
-  at = 0;
-  is = refl;
-  puts_out = outputs ns;
-  returns = record { result = Literal last false 0; at = 0; is = refl; word = literal_is last };
-}
 
 -- ---- its image
 
@@ -84,22 +57,33 @@ placed_length : (ts : List Token) (from end : ℕ) → ArePlaced from ts end →
 placed_length [] from end h = omega (arith, h)
 placed_length (t ∷ ts) from end h = omega (arith, placed_length ts (t.at + t.length) end h.2, h.0, h.1)
 
--- what the compiler promises of a source whose tokens are of the small form
-pub compiles : (source : List ℕ) (tokens : List Token) (fields : ImageFields) → length source ≤ 1048576 → Tokens source (Ok tokens) → ArePlaced 0 tokens (length source) → IsImageOf tokens fields → Compiles source fields
+-- tokens that are placed are in order for the parser
+pub in_order : (ts : List Token) (from end : ℕ) → end ≤ 1048576 → ArePlaced from ts end → InOrder from ts
+in_order [] from end short h = omega (arith, h, short)
+in_order (t ∷ ts) from end short h = (h.0, h.1, in_order ts (t.at + t.length) end short h.2)
+
+-- what the compiler promises of a source whose tokens are a program of the small form
+pub compiles : (source : List ℕ) (tokens : List Token) (fields : ImageFields) → length source ≤ 1048576 → Tokens source (Ok tokens) → ArePlaced 0 tokens (length source) → IsImageOfTokens tokens fields → Compiles source fields
 compiles source tokens fields short lexed placed of =
-    let ns : List ℕ = of.numbers in
-    let last : ℕ = of.last in
-    let long : length (small_words ns last) ≤ 66060288 = omega (arith, words_length ns last, few tokens ns last of.small, placed_length tokens 0 (length source) placed, short) in
-    let same = small_same ns last (program_of ns last) (is_small ns last) of.words.0 of.words.1 long in
+    let image = of.image in
+    let long : length (small_words image.numbers image.last) ≤ 66060288 = omega (arith, words_length image.numbers image.last, image.few, of.few, placed_length tokens 0 (length source) placed, short) in
+    let same = small_same image.numbers image.last of.program image.small image.words.0 image.words.1 long in
     record {
-      program = program_of ns last;
-      is_source = record { numbers = ns; last = last; text = record { tokens = tokens; lexed = lexed; small = of.small }; tree = is_small ns last };
-      fits = subst (λ (f : ImageFields). Fits f) (sym of.is) (fits ns last long);
-      same = rw of.is same;
+      program = of.program;
+      is_source = record { tokens = tokens; lexed = lexed; tree = of.tree; shallow = of.shallow };
+      fits = subst (λ (f : ImageFields). Fits f) (sym image.is) (fits image.numbers image.last long);
+      same = rw image.is same;
     }
 
-pub accepted : (source : List ℕ) (tokens : List Token) (fields : ImageFields) → length source ≤ 1048576 → Tokens source (Ok tokens) → IsImageOf tokens fields → IsAccepted source
-accepted source tokens fields short lexed of = record { short = short; numbers = of.numbers; last = of.last; text = record { tokens = tokens; lexed = lexed; small = of.small } }
+pub accepted : (source : List ℕ) (tokens : List Token) (fields : ImageFields) → length source ≤ 1048576 → Tokens source (Ok tokens) → IsImageOfTokens tokens fields → IsAccepted source
+accepted source tokens fields short lexed of = record {
+  short = short;
+  program = of.program;
+  is_source = record { tokens = tokens; lexed = lexed; tree = of.tree; shallow = of.shallow };
+  numbers = of.image.numbers;
+  last = of.image.last;
+  small = of.image.small;
+}
 
 -- ---- refusals
 
@@ -114,7 +98,8 @@ lex_refused source lexer.OutOfMemory short fault = tt
 pub tokens_refused : (source : List ℕ) (tokens : List Token) (refusal : Refusal) → length source ≤ 1048576 → Tokens source (Ok tokens) → RefusesTokens tokens refusal → IsNotCompiled source refusal
 tokens_refused source tokens TooLong short lexed refused = absurd refused
 tokens_refused source tokens (Lex e) short lexed refused = absurd refused
-tokens_refused source tokens NotYet short lexed refused = (short, (tokens, (lexed, refused)))
+tokens_refused source tokens (Parse e) short lexed refused = (short, (tokens, (lexed, refused)))
+tokens_refused source tokens NotYet short lexed (program, tree, shallow, none) = (short, (program, (record { tokens = tokens; lexed = lexed; tree = tree; shallow = shallow }, none)))
 tokens_refused source tokens OutOfMemory short lexed refused = tt
 
 ok_is_ok : (a b : List Token) → (let one : Result (List Token) LexError = Ok a in one) ≡ Ok b → a ≡ b
@@ -123,13 +108,25 @@ ok_is_ok a b e = cc
 ok_is_no_fault : (a : List Token) (e : LexError) → (let one : Result (List Token) LexError = Ok a in one) ≡ Err e → ⊥
 ok_is_no_fault a e h = cc
 
+same_tokens : (source : List ℕ) (a b : List Token) → Tokens source (Ok a) → Tokens source (Ok b) → a ≡ b
+same_tokens source a b x y = ok_is_ok a b (one_result source (Ok a) (Ok b) x y)
+
+same_program : (source : List ℕ) (p q : Program) → IsSource source p → IsSource source q → p ≡ q
+same_program source p q a b = one_tree b.tokens p q (subst (λ (ts : List Token). Tree ts p) (same_tokens source a.tokens b.tokens a.lexed b.lexed) a.tree) b.tree
+
+has_tree : (tokens : List Token) (e : ParseError) (program : Program) → HasNoTree tokens e → Tree tokens program → program_depth program ≤ 256 → ⊥
+has_tree tokens (parser.NoProgram at) program none tree shallow = none.0 program tree shallow
+has_tree tokens parser.OutOfMemory program none tree shallow = none
+
 -- no source is both accepted and refused
 both : (source : List ℕ) (refusal : Refusal) → IsRefused source refusal → IsAccepted source → ⊥
 both source TooLong refused accepted = omega (arith, refused, accepted.short)
-both source (Lex e) refused accepted = ok_is_no_fault accepted.text.tokens e (one_result source (Ok accepted.text.tokens) (Err e) accepted.text.lexed refused.1)
-both source NotYet (short, (tokens, (lexed, none))) accepted =
-    let same : tokens ≡ accepted.text.tokens = ok_is_ok tokens accepted.text.tokens (one_result source (Ok tokens) (Ok accepted.text.tokens) lexed accepted.text.lexed) in
-    none accepted.numbers accepted.last (subst (λ (ts : List Token). IsSmallTokens ts accepted.numbers accepted.last) (sym same) accepted.text.small)
+both source (Lex e) refused accepted = ok_is_no_fault accepted.is_source.tokens e (one_result source (Ok accepted.is_source.tokens) (Err e) accepted.is_source.lexed refused.1)
+both source (Parse e) (short, (tokens, (lexed, none))) accepted =
+    let same : accepted.is_source.tokens ≡ tokens = same_tokens source accepted.is_source.tokens tokens accepted.is_source.lexed lexed in
+    has_tree tokens e accepted.program none (subst (λ (ts : List Token). Tree ts accepted.program) same accepted.is_source.tree) accepted.is_source.shallow
+both source NotYet (short, (program, (is, none))) accepted =
+    none accepted.numbers accepted.last (subst (λ (p : Program). SmallProgram accepted.numbers accepted.last p) (same_program source accepted.program program accepted.is_source is) accepted.small)
 both source OutOfMemory refused accepted = refused
 
 pub not_both : (source other : List ℕ) (refusal : Refusal) → source ≡ other → IsRefused source refusal → IsAccepted other → ⊥

@@ -3,52 +3,63 @@ use Rattle.std.specs.Prelude.{ℕ, ◌≡◌, ◌<◌, ◌≤◌, List, length, 
 use Rattle.c_lexer.specs.declared.token.Token.{Token}
 use Rattle.c_lexer.specs.Tokens.{Tokens}
 use Rattle.c_tree.specs.declared.tree.Program.{Program}
+use Rattle.c_tree.specs.Sizes.{program_depth}
 use Rattle.c_tree.specs.Small.{SmallProgram}
+use Rattle.c_parser.specs.declared.program.ParseError.{ParseError}
+use Rattle.c_parser.specs.declared.program.ParseError.TheVariants as parser
+use Rattle.c_parser.specs.declared.program.ParseError.TheVariants.{NoProgram}
+use Rattle.c_parser.specs.Items.{Tree}
+use Rattle.c_parser.specs.Order.{IsPlace}
 use Rattle.mips_isa.specs.Image.{ImageFields}
 use Rattle.elf_image.specs.Bounds.{Fits}
 use Rattle.elf_image.specs.Held.{IsImage}
 use Rattle.hardcc_core.specs.declared.compiler.Refusal.{Refusal}
-use Rattle.hardcc_core.specs.declared.compiler.Refusal.TheVariants.{TooLong, Lex, NotYet, OutOfMemory}
-use Rattle.hardcc_core.specs.SmallTokens.{IsSmallTokens}
+use Rattle.hardcc_core.specs.declared.compiler.Refusal.TheVariants.{TooLong, Lex, Parse, NotYet, OutOfMemory}
 use Rattle.hardcc_core.specs.Same.{Same}
 
 -- the greatest number of bytes of a source
 abbrev pub longest_source : ℕ
 longest_source = 1048576
 
--- the source's tokens are of the small form, with these numbers and this last one
-pub record IsSmallSource (source numbers : List ℕ) (last : ℕ) : Type 0 where
+-- the source is the text of the program, whose depth is at most 256
+pub record IsSource (source : List ℕ) (program : Program) : Type 0 where
   pub tokens : List Token
   pub lexed : Tokens source (Ok tokens)
-  pub small : IsSmallTokens tokens numbers last
+  pub tree : Tree tokens program
+  pub shallow : program_depth program ≤ 256
 
--- the source is the text of the program
-pub record IsSource (source : List ℕ) (program : Program) : Type 0 where
-  pub numbers : List ℕ
-  pub last : ℕ
-  pub text : IsSmallSource source numbers last
-  pub tree : SmallProgram numbers last program
-
--- an accepted source: it is short enough, and of the small form
+-- an accepted source: it is short enough, and the text of a program of the small form
 pub record IsAccepted (source : List ℕ) : Type 0 where
   pub short : length source ≤ longest_source
+  pub program : Program
+  pub is_source : IsSource source program
   pub numbers : List ℕ
   pub last : ℕ
-  pub text : IsSmallSource source numbers last
+  pub small : SmallProgram numbers last program
 
--- Why a source is refused: it is too long; or else it has a fault in its tokens, the first; or else its tokens aren't of the
--- small form.
+-- the tokens are no program of depth at most 256; the place that is told is the byte of one of them, or the end of the last
+abbrev pub HasNoTree : List Token → ParseError → Type 0
+HasNoTree tokens (NoProgram at) = ((program : Program) → Tree tokens program → program_depth program ≤ 256 → ⊥) × IsPlace tokens at
+HasNoTree tokens parser.OutOfMemory = ⊥
+
+-- the program isn't of the small form
+abbrev pub IsNotSmall : Program → Type 0
+IsNotSmall program = (numbers : List ℕ) (last : ℕ) → SmallProgram numbers last program → ⊥
+
+-- Why a source is refused: it is too long; or else it has a fault in its tokens, the first; or else its tokens are no program;
+-- or else the program isn't of the small form.
 abbrev pub IsRefused : List ℕ → Refusal → Type 0
 IsRefused source TooLong = longest_source < length source
 IsRefused source (Lex error) = (length source ≤ longest_source) × Tokens source (Err error)
-IsRefused source NotYet = (length source ≤ longest_source)
-    × ((tokens : List Token) × (Tokens source (Ok tokens) × ((numbers : List ℕ) (last : ℕ) → IsSmallTokens tokens numbers last → ⊥)))
+IsRefused source (Parse error) = (length source ≤ longest_source) × ((tokens : List Token) × (Tokens source (Ok tokens) × HasNoTree tokens error))
+IsRefused source NotYet = (length source ≤ longest_source) × ((program : Program) × (IsSource source program × IsNotSmall program))
 IsRefused source OutOfMemory = ⊥
 
 -- why a source isn't compiled: it is refused, or there was no memory
 abbrev pub IsNotCompiled : List ℕ → Refusal → Type 0
 IsNotCompiled source TooLong = IsRefused source TooLong
 IsNotCompiled source (Lex error) = IsRefused source (Lex error)
+IsNotCompiled source (Parse error) = IsRefused source (Parse error)
 IsNotCompiled source NotYet = IsRefused source NotYet
 IsNotCompiled source OutOfMemory = Unit {0}
 

@@ -1,4 +1,3 @@
-pub mod SmallTokens
 pub mod SmallWords
 pub mod Same
 pub mod Commands

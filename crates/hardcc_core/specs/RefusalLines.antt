@@ -6,9 +6,11 @@ use Rattle.elf_image.specs.declared.read.ImageError.TheVariants.{Truncated, NotE
 use Rattle.hard_lines.specs.declared.inputs.LinesError.{LinesError}
 use Rattle.c_lexer.specs.declared.error.LexError.TheVariants as lexer
 use Rattle.c_lexer.specs.declared.error.LexError.TheVariants.{BadToken, LiteralTooLarge, CommentOpen}
+use Rattle.c_parser.specs.declared.program.ParseError.TheVariants as parser
+use Rattle.c_parser.specs.declared.program.ParseError.TheVariants.{NoProgram}
 use Rattle.hardcc_core.specs.declared.compiler.Refusal.{Refusal}
 use Rattle.hardcc_core.specs.declared.compiler.Refusal.TheVariants as refusals
-use Rattle.hardcc_core.specs.declared.compiler.Refusal.TheVariants.{TooLong, Lex, NotYet}
+use Rattle.hardcc_core.specs.declared.compiler.Refusal.TheVariants.{TooLong, Lex, Parse, NotYet}
 use Rattle.hard_lines.specs.declared.inputs.LinesError.TheVariants.{BadNumber, TooMany, OutOfMemory as NoMemory}
 
 -- a cause, with how many bytes it needs and how many there are
@@ -51,5 +53,7 @@ source_line (Lex (BadToken at)) = source_line_at (codes "BadToken") at
 source_line (Lex (LiteralTooLarge at)) = source_line_at (codes "LiteralTooLarge") at
 source_line (Lex (CommentOpen at)) = source_line_at (codes "CommentOpen") at
 source_line (Lex lexer.OutOfMemory) = []
+source_line (Parse (NoProgram at)) = source_line_at (codes "NoProgram") at
+source_line (Parse parser.OutOfMemory) = []
 source_line NotYet = line (codes "source refused: NotYet")
 source_line refusals.OutOfMemory = []

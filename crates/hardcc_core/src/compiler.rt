@@ -3,11 +3,14 @@
 ghost use Rattle.std.specs.Prelude.{◌≡◌, ◌≤◌, ◌+◌, ◌*◌, ◌++◌, ℕ, List, IfOk, OnOk, IfErr, length};
 ghost use Rattle.elf_image.specs.Layout.{fields_of};
 ghost use Rattle.hardcc_core.specs.Compiled.{IsAccepted, IsNotCompiled, Compiles};
-ghost use Rattle.hardcc_core.specs.CompileParts.{lexer_refusal, IsImageOf, RefusesTokens};
+ghost use Rattle.hardcc_core.specs.CompileParts.{lexer_refusal, parser_refusal, IsImageOf, IsImageOfTokens, RefusesTokens, RefusesProgram};
+ghost use Rattle.c_parser.specs.Order.{InOrder};
 ghost use Rattle.hardcc_core.specs.SmallWords.{small_words, small_fields, service_words};
 
-use crate::small_tokens::{SmallText, read_small_tokens};
+use crate::small_program::{SmallText, read_small_program};
 use c_lexer::{LexError, Token, tokens};
+use c_parser::{ParseError, parse};
+use c_tree::Program;
 use elf_image::{Aliases, Image, Windows};
 use hard_words::{OutOfMemory, Words};
 use mips_isa::{Instr, encode};
@@ -23,6 +26,9 @@ pub enum Refusal {
     /// The source has a fault in its tokens, of which this is the first.
     #[error("{0}")]
     Lex(LexError),
+    /// The source's tokens are no program of depth at most 256.
+    #[error("{0}")]
+    Parse(ParseError),
     /// The source is not of the small form that is compiled so far.
     #[error("the source is not of the form that is compiled so far")]
     NotYet,
@@ -38,8 +44,8 @@ const EXIT: u16 = 17;
 
 /// The image of a source of at most 1,048,576 bytes: the source's program as words for the machine.
 ///
-/// A source is accepted exactly where its tokens are of the small form: `int main ( void ) {`, calls
-/// `out_word ( N ) ;`, `return N ;` and `}`, where N is a constant, in parentheses or not.
+/// A source is accepted exactly where its tokens are a program of the small form: `int main(void)`
+/// alone, with statements `out_word(N);` and last `return N;`, N a constant in parentheses or not.
 pub fn compile(alloc: Global, source: &[u8]) -> Result<Image, Refusal>
     ensures ok { IfOk result (λ image. Compiles source.now (fields_of image)) }
     ensures accepted { IfOk result (λ image. IsAccepted source.now) }
@@ -65,10 +71,31 @@ fn lexer_refusal(error: LexError) -> Refusal
 
 // The image of the tokens of a source.
 fn compile_tokens(alloc: Global, tokens: &[Token]) -> Result<Image, Refusal>
-    ensures ok { IfOk result (λ image. IsImageOf tokens.now (fields_of image)) }
+    requires { InOrder 0 tokens.now }
+    ensures ok { IfOk result (λ image. IsImageOfTokens tokens.now (fields_of image)) }
     ensures refused { IfErr result (λ refusal. RefusesTokens tokens.now refusal) }
 {
-    match read_small_tokens(alloc, tokens) {
+    match parse(alloc, tokens) {
+        Err(error) => Err(parser_refusal(error)),
+        Ok(program) => compile_program(alloc, &program),
+    }
+}
+
+fn parser_refusal(error: ParseError) -> Refusal
+    ensures { result ≡ parser_refusal error }
+{
+    match error {
+        ParseError::OutOfMemory => Refusal::OutOfMemory,
+        _ => Refusal::Parse(error),
+    }
+}
+
+// The image of a program.
+fn compile_program(alloc: Global, program: &Program) -> Result<Image, Refusal>
+    ensures ok { IfOk result (λ image. IsImageOf program.now (fields_of image)) }
+    ensures refused { IfErr result (λ refusal. RefusesProgram program.now refusal) }
+{
+    match read_small_program(alloc, program) {
         Err(OutOfMemory) => Err(Refusal::OutOfMemory),
         Ok(None) => Err(Refusal::NotYet),
         Ok(Some(small)) => match image_of(alloc, &small) {

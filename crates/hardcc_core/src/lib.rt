@@ -9,7 +9,6 @@ mod laws;
 mod refusal_lines;
 mod run_file;
 mod small_program;
-mod small_tokens;
 #[cfg(test)]
 mod tests;
 mod tool;
@@ -17,5 +16,4 @@ mod tool;
 pub use compiler::{Refusal, compile};
 pub use failure::Failure;
 pub use laws::{small_same, straight_line};
-pub use small_tokens::small_tokens_laws;
 pub use tool::run_tool;

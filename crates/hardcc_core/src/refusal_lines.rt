@@ -7,6 +7,7 @@ ghost use Rattle.hardcc_core.specs.RefusalLines.{source_line, need_and_have, ima
 use crate::compiler::Refusal;
 use arrayvec::ArrayVec;
 use c_lexer::LexError;
+use c_parser::ParseError;
 use elf_image::ImageError;
 use hard_lines::LinesError;
 use itoa::Buffer;
@@ -83,8 +84,11 @@ pub(crate) fn source_line(refusal: Refusal) -> Line
         Refusal::Lex(LexError::BadToken { at }) => source_line_at(b"BadToken", at),
         Refusal::Lex(LexError::LiteralTooLarge { at }) => source_line_at(b"LiteralTooLarge", at),
         Refusal::Lex(LexError::CommentOpen { at }) => source_line_at(b"CommentOpen", at),
+        Refusal::Parse(ParseError::NoProgram { at }) => source_line_at(b"NoProgram", at),
         Refusal::NotYet => plain_line(b"source refused: NotYet"),
-        Refusal::Lex(LexError::OutOfMemory) | Refusal::OutOfMemory => ArrayVec::new(),
+        Refusal::Lex(LexError::OutOfMemory)
+        | Refusal::Parse(ParseError::OutOfMemory)
+        | Refusal::OutOfMemory => ArrayVec::new(),
     }
 }
 

@@ -8,10 +8,18 @@ ghost use Rattle.c_tree.specs.Small.{literal, IsOutput, Outputs, IsReturn, Small
 ghost use Rattle.c_tree.specs.Sizes.{program_nodes};
 ghost use Rattle.hardcc_core.specs.SmallWords.{AreWords};
 
-use crate::small_tokens::SmallText;
 use c_tree::{Expr, Function, Program, Stmt, TopItem, Ty};
 use hard_words::{OutOfMemory, Words};
 use std::alloc::Global;
+
+/// What a small program says: the words that it puts out in order, and the word that it returns.
+#[derive(Debug, Drop)]
+pub(crate) struct SmallText {
+    /// The words that it puts out.
+    pub(crate) numbers: Words,
+    /// The word that it returns.
+    pub(crate) last: u32,
+}
 
 /// Reads the tree of a small program: `int main(void)` alone, whose body is any number of statements
 /// `out_word(N);` and at last `return N;`.

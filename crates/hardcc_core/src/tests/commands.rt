@@ -1,6 +1,6 @@
 //! What no clause says: that the tool does its work with ample memory, and the very texts that it prints.
 
-use crate::{run_tool, small_same, small_tokens_laws, straight_line};
+use crate::{run_tool, small_same, straight_line};
 use hard_shelf::{MemoryShelf, MemorySink};
 use std::test::Fail;
 
@@ -58,16 +58,16 @@ fn compiles_and_runs_the_first_text(rt: HostRuntime) -> Result<(), Fail> {
     }
     small_same();
     straight_line();
-    small_tokens_laws();
     Ok(())
 }
 
 #[test]
 fn refuses_with_the_written_lines(rt: HostRuntime) -> Result<(), Fail> {
     let mut shelf = MemoryShelf::new(rt.alloc());
-    let sources: [(&[u8], &[u8]); 8] = [
+    let sources: [(&[u8], &[u8]); 9] = [
         (b"int main(void){return x;}", b"source refused: NotYet\n"),
         (b"", b"source refused: NotYet\n"),
+        (b"int main(void){return 0}", b"source refused: NoProgram at 23\n"),
         (
             b"int main(void){while(1) out_word(1); return 0;}",
             b"source refused: NotYet\n",
