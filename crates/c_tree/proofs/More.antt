@@ -9,16 +9,10 @@ use Rattle.c_tree.specs.declared.tree.TopItem.{TopItem}
 use Rattle.c_tree.specs.Operators.{is_zero}
 use Rattle.c_tree.specs.Run.{Entry, Global, State, Outcome, Gives, Ends, Run, and_then, ◌>>=◌, ◌>>◌, pure, stop, spend, spend_from, put_out, take_in, next_of}
 use Rattle.c_tree.specs.Meaning.{Names, ran, run_of, first_state, call_at, turns, loop, after_body}
-use Rattle.c_tree.specs.Laws.{Prefix, Continues, ended, went_on, MoreFuel}
+use Rattle.hard_words.specs.Observed.{Prefix}
+use Rattle.hard_words.proofs.Observed.{prefix_reflexive, prefix_transitive}
+use Rattle.c_tree.specs.Laws.{Continues, ended, went_on, MoreFuel}
 use Rattle.c_tree.proofs.Related.{IsKept, OnVariables, changed, Same, on_call}
-
--- ---- prefixes
-
-prefix_same : (a : List ℕ) → Prefix a a
-prefix_same a = ([], append-nil a)
-
-prefix_after : (a b c : List ℕ) → Prefix a b → Prefix b c → Prefix a c
-prefix_after a b c p q = (p.0 ++ q.0, sym (append_assoc a p.0 q.0) ∙ ap (λ x. x ++ q.0) p.1 ∙ q.1)
 
 -- ---- outcomes
 
@@ -51,7 +45,7 @@ pub record More (A : Type 0) (m m' : Run A) : Type 0 where
 -- ---- one part after another
 
 grows_on : {A B : Type 0} (a : List ℕ) (o : Outcome A) (go : A → Run B) → Prefix a (output_of o) → ((x : A) → Grows B (go x)) → Prefix a (output_of (and_then o go))
-grows_on a (Gives x s) go p g = prefix_after a s.output (output_of (go x s)) p ((g x).by s)
+grows_on a (Gives x s) go p g = prefix_transitive a s.output (output_of (go x s)) p ((g x).by s)
 grows_on a (Ends end output) go p g = p
 
 grows_then : {A B : Type 0} (m : Run A) (go : A → Run B) → Grows A m → ((x : A) → Grows B (go x)) → Grows B (m >>= go)
@@ -74,14 +68,14 @@ more_then {m = m} {m' = m'} {go = go} {go' = go'} p g = record {
 -- ---- each step
 
 more_pure : {A : Type 0} (a : A) → More A (pure a) (pure a)
-more_pure a = record { at = λ d s. alike refl; grows = record { by = λ s. prefix_same s.output } }
+more_pure a = record { at = λ d s. alike refl; grows = record { by = λ s. prefix_reflexive s.output } }
 
 more_stop : {A : Type 0} (end : EvalEnd) → More A (stop end) (stop end)
-more_stop end = record { at = λ d s. alike refl; grows = record { by = λ s. prefix_same s.output } }
+more_stop end = record { at = λ d s. alike refl; grows = record { by = λ s. prefix_reflexive s.output } }
 
 grows_changed : {A : Type 0} (s : State) (r : Result (A × List Global × List (List Entry)) EvalEnd) → Prefix s.output (output_of (changed s r))
-grows_changed s (Ok (a, g, c)) = prefix_same s.output
-grows_changed s (Err end) = prefix_same s.output
+grows_changed s (Ok (a, g, c)) = prefix_reflexive s.output
+grows_changed s (Err end) = prefix_reflexive s.output
 
 more_changed : {A : Type 0} (d : ℕ) (s : State) (r : Result (A × List Global × List (List Entry)) EvalEnd) → changed (fed d s) r ≡ more d (changed s r)
 more_changed d s (Ok (a, g, c)) = refl
@@ -97,8 +91,8 @@ more_put_out : (word : ℕ) → More (Unit {0}) (put_out word) (put_out word)
 more_put_out word = record { at = λ d s. alike refl; grows = record { by = λ s. (word ∷ [], refl) } }
 
 grows_next : (words : List ℕ) (s : State) → Prefix s.output (output_of (next_of words s))
-grows_next [] s = prefix_same s.output
-grows_next (word ∷ words) s = prefix_same s.output
+grows_next [] s = prefix_reflexive s.output
+grows_next (word ∷ words) s = prefix_reflexive s.output
 
 more_next : (d : ℕ) (words : List ℕ) (s : State) → next_of words (fed d s) ≡ more d (next_of words s)
 more_next d [] s = refl
@@ -108,8 +102,8 @@ more_take_in : More ℕ take_in take_in
 more_take_in = record { at = λ d s. alike (more_next d s.input s); grows = record { by = λ s. grows_next s.input s } }
 
 grows_spend : (left : ℕ) (s : State) → Prefix s.output (output_of (spend_from left s))
-grows_spend zero s = prefix_same s.output
-grows_spend (suc left) s = prefix_same s.output
+grows_spend zero s = prefix_reflexive s.output
+grows_spend (suc left) s = prefix_reflexive s.output
 
 goes_spend : (d left : ℕ) (s : State) → Goes d (spend_from left s) (spend_from (left + d) (fed d s))
 goes_spend d zero s = further s.output refl (grows_spend (0 + d) (fed d s))

@@ -1,5 +1,6 @@
 -- What holds of the run of every program, whether it has faults or not.
 use Rattle.std.specs.Prelude.{◌≡◌, ℕ, ◌<◌, ◌≤◌, List, ◌++◌}
+use Rattle.hard_words.specs.Observed.{Prefix}
 use Rattle.c_tree.specs.declared.tree.Expr.{Expr}
 use Rattle.c_tree.specs.declared.tree.Stmt.{Stmt}
 use Rattle.c_tree.specs.declared.tree.TopItem.{TopItem}
@@ -8,10 +9,6 @@ use Rattle.c_tree.specs.declared.tree.Program.{Program}
 use Rattle.c_tree.specs.declared.run.EvalEnd.TheVariants.{Going}
 use Rattle.c_tree.specs.Run.{State, Outcome, Gives, Ends}
 use Rattle.c_tree.specs.Meaning.{Names, CRan, run_of, expression, statement, calls, call_at}
-
--- one list begins another, the whole list included
-abbrev pub Prefix : List ℕ → List ℕ → Type 0
-Prefix a b = (rest : List ℕ) × (a ++ rest ≡ b)
 
 -- what more fuel makes of a run: where it has ended, nothing; where it is going, it can only add to the output
 pub data Continues (before after : CRan) : Type 0 where
