@@ -1,0 +1,5 @@
+pub mod Options
+pub mod Parts
+pub mod Tables
+pub mod Complete
+pub mod Sound

@@ -1,0 +1,6 @@
+pub mod Places
+pub mod Operators
+pub mod Depth
+pub mod Expressions
+pub mod ReadExpressions
+pub mod Gives

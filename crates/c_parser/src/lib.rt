@@ -1,0 +1,6 @@
+//! From tokens to the syntax tree, ISO/IEC 9899 clauses 6.5 to 6.9 cut down to the subset.
+#![tactic(auto)]
+
+
+mod fault;
+mod operators;
