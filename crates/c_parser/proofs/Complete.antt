@@ -13,7 +13,7 @@ use Rattle.c_parser.specs.declared.operators.Infix.{Infix}
 use Rattle.c_parser.specs.declared.operators.Prefix.{Prefix}
 use Rattle.c_parser.specs.Places.{Place, mark, sign}
 use Rattle.c_parser.specs.Operators.{infix_of, assignment_of, prefix_of, postfix_of, infix_at, assignment_at, prefix_at, postfix_at, joined, prefixed}
-use Rattle.c_parser.specs.Depth.{depth, greatest}
+use Rattle.c_tree.specs.Sizes.{expression_depth as depth, greatest}
 use Rattle.c_parser.specs.Expressions.{Level, comma, assign, cond, binary, postfix, primary, Reads, ReadsAll, comma_assign, comma_both, assign_cond, assign_to, cond_binary, choose, tighter, both, unary_postfix, unary, postfix_primary, bump, literal, name, index, call_none, call, paren, one, more}
 use Rattle.c_parser.specs.ReadExpressions.{Read, Reader, ◌>>=◌, is_unary, kind_of, after, is_close_paren, is_colon, is_close_bracket, arguments, after_argument, next_argument, call_at, named_at, named, primary_at, primary_from, bump_at, bumps, postfix_from, unary_at, unary_from, of_level, turn_at, chain, level, choose_at, after_test, cond_from, assign_at, after_place, assign_from, comma_at, commas, comma_from, layer, read}
 use Rattle.c_parser.proofs.Options.{some_is, none_is, bind_is, length-cons}
@@ -95,7 +95,7 @@ turn self n k zero left right op s p ts rest h is small reads = absurd (omega (a
 turn self n k (suc f) left right op s p ts rest h is small reads = (f, refl, ap (turn_at self n k (chain self n k f) left (sign s p) ts) (of_level_some (suc k) (infix_of s) op is) ∙ turn_some self n k (chain self n k f) left (sign s p) ts op right rest small reads)
 
 is_both : (k : ℕ) (a b : List Token) (left right : Expr) (op : Infix) (s : Punct) (p : Place) → infix_of s ≡ Some (suc k, op) → Claim (binary (suc k)) a left → Claim (binary k) b right → Claim (binary (suc k)) (a ++ sign s p ∷ b) (joined op left right p.at)
-is_both k a b left right op s p is l r n rest h g = let deep : depth (joined op left right p.at) ≡ suc (max (depth left) (depth right)) = depth_joined op left right p.at in let small : depth left ≤ n = omega (arith, h, deep) in let small_r : depth right ≤ n = omega (arith, h, deep) in let found : (f : ℕ) × (suc (suc n) ≤ f + depth left) × (level (read n) n (suc k) (a ++ (sign s p ∷ (b ++ rest))) ≡ chain (read n) n k f left (sign s p ∷ (b ++ rest))) = l n (sign s p ∷ (b ++ rest)) (omega (arith, small)) (omega (arith, infix_loose s (suc k) op is)) in let next : (f : ℕ) × (found.0 ≡ suc f) × (chain (read n) n k found.0 left (sign s p ∷ (b ++ rest)) ≡ chain (read n) n k f (joined op left right p.at) rest) = turn (read n) n k found.0 left right op s p (b ++ rest) rest (omega (arith, found.1, small)) is small (whole (binary k) b right r n rest small_r g) in (next.0, omega (arith, found.1, next.1, deep), ap (λ ts. level (read n) n (suc k) ts) (append_assoc a (sign s p ∷ b) rest) ∙ found.2 ∙ next.2)
+is_both k a b left right op s p is l r n rest h g = let deep : depth (joined op left right p.at) ≡ 1 + (max (depth left) (depth right)) = depth_joined op left right p.at in let small : depth left ≤ n = omega (arith, h, deep) in let small_r : depth right ≤ n = omega (arith, h, deep) in let found : (f : ℕ) × (suc (suc n) ≤ f + depth left) × (level (read n) n (suc k) (a ++ (sign s p ∷ (b ++ rest))) ≡ chain (read n) n k f left (sign s p ∷ (b ++ rest))) = l n (sign s p ∷ (b ++ rest)) (omega (arith, small)) (omega (arith, infix_loose s (suc k) op is)) in let next : (f : ℕ) × (found.0 ≡ suc f) × (chain (read n) n k found.0 left (sign s p ∷ (b ++ rest)) ≡ chain (read n) n k f (joined op left right p.at) rest) = turn (read n) n k found.0 left right op s p (b ++ rest) rest (omega (arith, found.1, small)) is small (whole (binary k) b right r n rest small_r g) in (next.0, omega (arith, found.1, next.1, deep), ap (λ ts. level (read n) n (suc k) ts) (append_assoc a (sign s p ∷ b) rest) ∙ found.2 ∙ next.2)
 
 is_postfix_primary : (ts : List Token) (e : Expr) → Whole primary ts e → Claim postfix ts e
 is_postfix_primary ts e c n rest h g = (suc n, omega (arith, depth_positive e), bind_is (λ x. bumps n (suc n) x.0 x.1) (c (suc n) rest h g))
@@ -105,7 +105,7 @@ bump_turn n zero e up s p rest h is small = absurd (omega (arith, h))
 bump_turn n (suc f) e up s p rest h is small = (f, refl, ap (bump_at n (bumps n f) e (sign s p) rest) is ∙ rw (le-leb (depth e) n small) refl)
 
 is_bump : (ts : List Token) (e : Expr) (up : Bool) (s : Punct) (p : Place) → postfix_of s ≡ Some up → Claim postfix ts e → Claim postfix (ts ++ sign s p ∷ []) (Bump up false e p.at)
-is_bump ts e up s p is c n rest h g = let deep : depth (Bump up false e p.at) ≡ suc (depth e) = depth_bump up false e p.at in let small : depth e ≤ n = omega (arith, h, deep) in let found : (f : ℕ) × (suc (suc n) ≤ f + depth e) × (postfix_from (read n) n (ts ++ (sign s p ∷ rest)) ≡ bumps n f e (sign s p ∷ rest)) = c n (sign s p ∷ rest) (omega (arith, small)) (omega (arith, postfix_loose s up is)) in let next : (f : ℕ) × (found.0 ≡ suc f) × (bumps n found.0 e (sign s p ∷ rest) ≡ bumps n f (Bump up false e p.at) rest) = bump_turn n found.0 e up s p rest (omega (arith, found.1, small)) is small in (next.0, omega (arith, found.1, next.1, deep), ap (postfix_from (read n) n) (append_assoc ts (sign s p ∷ []) rest) ∙ found.2 ∙ next.2)
+is_bump ts e up s p is c n rest h g = let deep : depth (Bump up false e p.at) ≡ 1 + (depth e) = depth_bump up false e p.at in let small : depth e ≤ n = omega (arith, h, deep) in let found : (f : ℕ) × (suc (suc n) ≤ f + depth e) × (postfix_from (read n) n (ts ++ (sign s p ∷ rest)) ≡ bumps n f e (sign s p ∷ rest)) = c n (sign s p ∷ rest) (omega (arith, small)) (omega (arith, postfix_loose s up is)) in let next : (f : ℕ) × (found.0 ≡ suc f) × (bumps n found.0 e (sign s p ∷ rest) ≡ bumps n f (Bump up false e p.at) rest) = bump_turn n found.0 e up s p rest (omega (arith, found.1, small)) is small in (next.0, omega (arith, found.1, next.1, deep), ap (postfix_from (read n) n) (append_assoc ts (sign s p ∷ []) rest) ∙ found.2 ∙ next.2)
 
 unary_skips : (self : Reader) (n : ℕ) (all : List Token) (t : Token) (us : List Token) → all ≡ t ∷ us → prefix_at t.kind ≡ None → unary_from self n all ≡ postfix_from self n all
 unary_skips self n all t us is h = ap (unary_from self n) is ∙ ap (unary_at self n t us) h ∙ ap (postfix_from self n) (sym is)
@@ -153,7 +153,7 @@ is_assign ts e c (suc n) rest h g = bind_is (λ x. after_place (read n) n x.0 x.
 
 is_choose : (a b c : List Token) (test x y : Expr) (p q : Place) → Claim (binary 10) a test → Whole comma b x → Whole cond c y → Whole cond (a ++ sign signs.Question p ∷ (b ++ sign signs.Colon q ∷ c)) (Choose test x y p.at)
 is_choose a b c test x y p q u v w zero rest h g = absurd (omega (arith, h, depth_positive (Choose test x y p.at)))
-is_choose a b c test x y p q u v w (suc n) rest h g = let deep : depth (Choose test x y p.at) ≡ suc (max (depth test) (max (depth x) (depth y))) = depth_choose test x y p.at in ap (cond_from (read n) n) (append_assoc a (sign signs.Question p ∷ (b ++ sign signs.Colon q ∷ c)) rest ∙ ap (λ ts. a ++ sign signs.Question p ∷ ts) (append_assoc b (sign signs.Colon q ∷ c) rest)) ∙ bind_is (λ x. after_test (read n) n x.0 x.1) (whole (binary 10) a test u (suc n) (sign signs.Question p ∷ (b ++ sign signs.Colon q ∷ (c ++ rest))) (omega (arith, h, deep)) (omega arith)) ∙ rw (le-leb (depth test) n (omega (arith, h, deep)), v n (sign signs.Colon q ∷ (c ++ rest)) (omega (arith, h, deep)) (omega arith), w n rest (omega (arith, h, deep)) g) refl
+is_choose a b c test x y p q u v w (suc n) rest h g = let deep : depth (Choose test x y p.at) ≡ 1 + (max (depth test) (max (depth x) (depth y))) = depth_choose test x y p.at in ap (cond_from (read n) n) (append_assoc a (sign signs.Question p ∷ (b ++ sign signs.Colon q ∷ c)) rest ∙ ap (λ ts. a ++ sign signs.Question p ∷ ts) (append_assoc b (sign signs.Colon q ∷ c) rest)) ∙ bind_is (λ x. after_test (read n) n x.0 x.1) (whole (binary 10) a test u (suc n) (sign signs.Question p ∷ (b ++ sign signs.Colon q ∷ (c ++ rest))) (omega (arith, h, deep)) (omega arith)) ∙ rw (le-leb (depth test) n (omega (arith, h, deep)), v n (sign signs.Colon q ∷ (c ++ rest)) (omega (arith, h, deep)) (omega arith), w n rest (omega (arith, h, deep)) g) refl
 
 -- a unary expression stands at each level of binary operators
 lifted : (k : ℕ) (ts : List Token) (e : Expr) → Whole (binary zero) ts e → Claim (binary k) ts e
@@ -162,7 +162,7 @@ lifted (suc k) ts e c = is_tighter k ts e (lifted k ts e c)
 
 is_assign_to : (a b : List Token) (place value : Expr) (op : Option BinaryOp) (s : Punct) (p : Place) → assignment_of s ≡ Some op → is_unary place ≡ true → Whole (binary zero) a place → Whole assign b value → Whole assign (a ++ sign s p ∷ b) (Assign op place value p.at)
 is_assign_to a b place value op s p is form c d zero rest h g = absurd (omega (arith, h, depth_positive (Assign op place value p.at)))
-is_assign_to a b place value op s p is form c d (suc n) rest h g = let deep : depth (Assign op place value p.at) ≡ suc (max (depth place) (depth value)) = depth_assign op place value p.at in ap (assign_from (read n) n) (append_assoc a (sign s p ∷ b) rest) ∙ bind_is (λ x. after_place (read n) n x.0 x.1) (is_cond a place (lifted 10 a place c) (suc n) (sign s p ∷ (b ++ rest)) (omega (arith, h, deep)) (omega (arith, assignment_loose s op is))) ∙ ap (assign_at (read n) n place (sign s p) (b ++ rest)) is ∙ rw (form, le-leb (depth place) n (omega (arith, h, deep)), d n rest (omega (arith, h, deep)) g) refl
+is_assign_to a b place value op s p is form c d (suc n) rest h g = let deep : depth (Assign op place value p.at) ≡ 1 + (max (depth place) (depth value)) = depth_assign op place value p.at in ap (assign_from (read n) n) (append_assoc a (sign s p ∷ b) rest) ∙ bind_is (λ x. after_place (read n) n x.0 x.1) (is_cond a place (lifted 10 a place c) (suc n) (sign s p ∷ (b ++ rest)) (omega (arith, h, deep)) (omega (arith, assignment_loose s op is))) ∙ ap (assign_at (read n) n place (sign s p) (b ++ rest)) is ∙ rw (form, le-leb (depth place) n (omega (arith, h, deep)), d n rest (omega (arith, h, deep)) g) refl
 
 is_comma_assign : (ts : List Token) (e : Expr) → Whole assign ts e → Claim comma ts e
 is_comma_assign ts e c n rest h g = (suc n, omega (arith, depth_positive e), bind_is (λ x. commas (read n) n (suc n) x.0 x.1) (c (suc n) rest h g))
@@ -172,7 +172,7 @@ comma_turn self n zero left right p ts rest h small reads = absurd (omega (arith
 comma_turn self n (suc f) left right p ts rest h small reads = (f, refl, rw (le-leb (depth left) n small, reads) refl)
 
 is_comma_both : (a b : List Token) (left right : Expr) (p : Place) → Claim comma a left → Whole assign b right → Claim comma (a ++ sign signs.Comma p ∷ b) (Comma left right p.at)
-is_comma_both a b left right p l r n rest h g = let deep : depth (Comma left right p.at) ≡ suc (max (depth left) (depth right)) = depth_comma left right p.at in let small : depth left ≤ n = omega (arith, h, deep) in let small_r : depth right ≤ n = omega (arith, h, deep) in let found : (f : ℕ) × (suc (suc n) ≤ f + depth left) × (comma_from (read n) n (a ++ (sign signs.Comma p ∷ (b ++ rest))) ≡ commas (read n) n f left (sign signs.Comma p ∷ (b ++ rest))) = l n (sign signs.Comma p ∷ (b ++ rest)) (omega (arith, small)) (omega arith) in let next : (f : ℕ) × (found.0 ≡ suc f) × (commas (read n) n found.0 left (sign signs.Comma p ∷ (b ++ rest)) ≡ commas (read n) n f (Comma left right p.at) rest) = comma_turn (read n) n found.0 left right p (b ++ rest) rest (omega (arith, found.1, small)) small (r n rest small_r g) in (next.0, omega (arith, found.1, next.1, deep), ap (comma_from (read n) n) (append_assoc a (sign signs.Comma p ∷ b) rest) ∙ found.2 ∙ next.2)
+is_comma_both a b left right p l r n rest h g = let deep : depth (Comma left right p.at) ≡ 1 + (max (depth left) (depth right)) = depth_comma left right p.at in let small : depth left ≤ n = omega (arith, h, deep) in let small_r : depth right ≤ n = omega (arith, h, deep) in let found : (f : ℕ) × (suc (suc n) ≤ f + depth left) × (comma_from (read n) n (a ++ (sign signs.Comma p ∷ (b ++ rest))) ≡ commas (read n) n f left (sign signs.Comma p ∷ (b ++ rest))) = l n (sign signs.Comma p ∷ (b ++ rest)) (omega (arith, small)) (omega arith) in let next : (f : ℕ) × (found.0 ≡ suc f) × (commas (read n) n found.0 left (sign signs.Comma p ∷ (b ++ rest)) ≡ commas (read n) n f (Comma left right p.at) rest) = comma_turn (read n) n found.0 left right p (b ++ rest) rest (omega (arith, found.1, small)) small (r n rest small_r g) in (next.0, omega (arith, found.1, next.1, deep), ap (comma_from (read n) n) (append_assoc a (sign signs.Comma p ∷ b) rest) ∙ found.2 ∙ next.2)
 
 is_literal : (value : ℕ) (is_unsigned : Bool) (p : Place) → Whole primary (mark (kinds.Number value is_unsigned) p ∷ []) (Literal value is_unsigned p.at)
 is_literal value is_unsigned p zero rest h g = absurd (omega (arith, h, depth_positive (Literal value is_unsigned p.at)))

@@ -3,3 +3,4 @@ pub mod Parts
 pub mod Tables
 pub mod Complete
 pub mod Sound
+pub mod Steps

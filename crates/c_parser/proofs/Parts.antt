@@ -1,5 +1,5 @@
 -- The depth and the form of a tree, by what it is made of.
-use Rattle.std.proofs.Common.{◌≡◌, ◌≤◌, ℕ, suc, Bool, true, false, List, map, max, Option, refl, sym, arith, subst}
+use Rattle.std.proofs.Common.{◌≡◌, ◌≤◌, ◌+◌, ℕ, Bool, true, false, List, map, max, Option, refl, sym, arith, subst}
 use Rattle.c_tree.specs.declared.tree.BinaryOp.{BinaryOp}
 use Rattle.c_tree.specs.declared.tree.UnaryOp.{UnaryOp}
 use Rattle.c_tree.specs.declared.tree.Expr.{Expr, Literal, Name, Index, Call, Unary, Binary, Logic, Choose, Assign, Bump, Comma, Paren, fold_out-Expr}
@@ -10,7 +10,7 @@ use Rattle.c_parser.specs.declared.operators.Infix.TheVariants as infixes
 use Rattle.c_parser.specs.declared.operators.Prefix.{Prefix}
 use Rattle.c_parser.specs.declared.operators.Prefix.TheVariants as prefixes
 use Rattle.c_parser.specs.Operators.{joined, prefixed}
-use Rattle.c_parser.specs.Depth.{depth, depth_step, greatest}
+use Rattle.c_tree.specs.Sizes.{expression_depth as depth, expression_depth_step as depth_step, greatest}
 use Rattle.c_parser.specs.ReadExpressions.{is_unary}
 
 pub depth_literal : (v : ℕ) (u : Bool) (at : ℕ) → depth (Literal v u at) ≡ 1
@@ -19,33 +19,33 @@ depth_literal v u at = simp the_lemmas
 pub depth_name : (v at : ℕ) → depth (Name v at) ≡ 1
 depth_name v at = simp the_lemmas
 
-pub depth_index : (n : ℕ) (e : Expr) (at : ℕ) → depth (Index n e at) ≡ suc (depth e)
+pub depth_index : (n : ℕ) (e : Expr) (at : ℕ) → depth (Index n e at) ≡ 1 + (depth e)
 depth_index n e at = simp the_lemmas
 
-pub depth_call : (n : ℕ) (es : List Expr) (at : ℕ) → depth (Call n es at) ≡ suc (greatest (map depth es))
+pub depth_call : (n : ℕ) (es : List Expr) (at : ℕ) → depth (Call n es at) ≡ 1 + (greatest (map depth es))
 depth_call n es at = simp the_lemmas
 
-pub depth_paren : (e : Expr) (at : ℕ) → depth (Paren e at) ≡ suc (depth e)
+pub depth_paren : (e : Expr) (at : ℕ) → depth (Paren e at) ≡ 1 + (depth e)
 depth_paren e at = simp the_lemmas
 
-pub depth_bump : (up before : Bool) (e : Expr) (at : ℕ) → depth (Bump up before e at) ≡ suc (depth e)
+pub depth_bump : (up before : Bool) (e : Expr) (at : ℕ) → depth (Bump up before e at) ≡ 1 + (depth e)
 depth_bump up before e at = simp the_lemmas
 
-pub depth_prefixed : (op : Prefix) (e : Expr) (at : ℕ) → depth (prefixed op e at) ≡ suc (depth e)
+pub depth_prefixed : (op : Prefix) (e : Expr) (at : ℕ) → depth (prefixed op e at) ≡ 1 + (depth e)
 depth_prefixed (prefixes.Plain op) e at = simp the_lemmas
 depth_prefixed (prefixes.Bump up) e at = simp the_lemmas
 
-pub depth_joined : (op : Infix) (l r : Expr) (at : ℕ) → depth (joined op l r at) ≡ suc (max (depth l) (depth r))
+pub depth_joined : (op : Infix) (l r : Expr) (at : ℕ) → depth (joined op l r at) ≡ 1 + (max (depth l) (depth r))
 depth_joined (infixes.Plain op) l r at = simp the_lemmas
 depth_joined (infixes.Logic is_and) l r at = simp the_lemmas
 
-pub depth_comma : (l r : Expr) (at : ℕ) → depth (Comma l r at) ≡ suc (max (depth l) (depth r))
+pub depth_comma : (l r : Expr) (at : ℕ) → depth (Comma l r at) ≡ 1 + (max (depth l) (depth r))
 depth_comma l r at = simp the_lemmas
 
-pub depth_choose : (t a b : Expr) (at : ℕ) → depth (Choose t a b at) ≡ suc (max (depth t) (max (depth a) (depth b)))
+pub depth_choose : (t a b : Expr) (at : ℕ) → depth (Choose t a b at) ≡ 1 + (max (depth t) (max (depth a) (depth b)))
 depth_choose t a b at = simp the_lemmas
 
-pub depth_assign : (op : Option BinaryOp) (p v : Expr) (at : ℕ) → depth (Assign op p v at) ≡ suc (max (depth p) (depth v))
+pub depth_assign : (op : Option BinaryOp) (p v : Expr) (at : ℕ) → depth (Assign op p v at) ≡ 1 + (max (depth p) (depth v))
 depth_assign op p v at = simp the_lemmas
 
 pub unary_joined : (op : Infix) (l r : Expr) (at : ℕ) → is_unary (joined op l r at) ≡ false

@@ -13,7 +13,7 @@ use Rattle.c_parser.specs.declared.operators.Infix.{Infix}
 use Rattle.c_parser.specs.declared.operators.Prefix.{Prefix}
 use Rattle.c_parser.specs.Places.{Place, mark, sign}
 use Rattle.c_parser.specs.Operators.{infix_of, assignment_of, prefix_of, postfix_of, infix_at, assignment_at, prefix_at, postfix_at, joined, prefixed}
-use Rattle.c_parser.specs.Depth.{depth, greatest}
+use Rattle.c_tree.specs.Sizes.{expression_depth as depth, greatest}
 use Rattle.c_parser.specs.Expressions.{Level, comma, assign, cond, binary, postfix, primary, Reads, ReadsAll, comma_assign, comma_both, assign_cond, assign_to, cond_binary, choose, tighter, both, unary_postfix, unary, postfix_primary, bump, literal, name, index, call_none, call, paren, one, more}
 use Rattle.c_parser.specs.ReadExpressions.{Read, Reader, ◌>>=◌, is_unary, kind_of, after, is_close_paren, is_colon, is_close_bracket, arguments, after_argument, next_argument, call_at, named_at, named, primary_at, primary_from, bump_at, bumps, postfix_from, unary_at, unary_from, of_level, turn_at, chain, level, choose_at, after_test, cond_from, assign_at, after_place, assign_from, comma_at, commas, comma_from, layer, read}
 use Rattle.c_parser.proofs.Options.{some_is, none_is, clash, bind_some, guard_some, place_of, token_is, after_mark, sign_is, closes, joins}

@@ -1,6 +1,5 @@
 pub mod Places
 pub mod Operators
-pub mod Depth
 pub mod Expressions
 pub mod ReadExpressions
 pub mod Gives

@@ -12,7 +12,7 @@ use Rattle.c_parser.specs.declared.operators.Infix.{Infix}
 use Rattle.c_parser.specs.declared.operators.Prefix.{Prefix}
 use Rattle.c_parser.specs.Operators.{infix_at, assignment_at, prefix_at, postfix_at, joined, prefixed}
 use Rattle.c_parser.specs.Expressions.{Level, comma, assign, cond, binary, postfix, primary}
-use Rattle.c_parser.specs.Depth.{depth}
+use Rattle.c_tree.specs.Sizes.{expression_depth as depth}
 
 -- what is read, and the tokens after it
 abbrev pub Read : Type 0 → Type 0
@@ -57,6 +57,10 @@ is_close_bracket _ = false
 abbrev pub is_colon : TokenKind → Bool
 is_colon (kinds.Sign signs.Colon) = true
 is_colon _ = false
+
+abbrev pub is_comma_sign : TokenKind → Bool
+is_comma_sign (kinds.Sign signs.Comma) = true
+is_comma_sign _ = false
 
 -- what stands behind a token of a kind
 abbrev pub after : (TokenKind → Bool) → List Token → Option (List Token)
