@@ -23,16 +23,9 @@ pub read_step : (n : ℕ) (l : Level) (ts : List Token) → 0 < n → read n l t
 read_step zero l ts h = absurd (omega (arith, h))
 read_step (suc n) l ts h = let minus : suc n - 1 ≡ n = omega arith in rw minus refl
 
--- the level above, where the one below fails or gives something
-level_more : (self : Reader) (n m : ℕ) (ts : List Token) → level self n m ts ≡ None → (j : ℕ) → level self n (j + m) ts ≡ None
-level_more self n m ts h zero = let e : 0 + m ≡ m = omega arith in rw e h
-level_more self n m ts h (suc j) = let e : suc j + m ≡ suc (j + m) = omega arith in rw e (ap (λ r. r >>= λ x. chain self n (j + m) (suc n) x.0 x.1) (level_more self n m ts h j))
-
-pub level_none : (self : Reader) (n j k : ℕ) (ts : List Token) → j ≤ k → level self n j ts ≡ None → level self n k ts ≡ None
-level_none self n j k ts h g = let e : (k - j) + j ≡ k = omega (arith, h) in subst (λ i. level self n i ts ≡ None) e (level_more self n j ts g (k - j))
-
-pub level_next : (self : Reader) (n j : ℕ) (ts rest : List Token) (left : Expr) (r : Read Expr) → level self n j ts ≡ Some (left, rest) → chain self n j (suc n) left rest ≡ r → level self n (j + 1) ts ≡ r
-level_next self n j ts rest left r h g = let e : j + 1 ≡ suc j = omega arith in rw e (bind_is (λ x. chain self n j (suc n) x.0 x.1) h ∙ g)
+pub level_step : (self : Reader) (n k : ℕ) (ts : List Token) → 0 < k → level self n k ts ≡ (level self n (k - 1) ts >>= λ x. chain self n (k - 1) (suc n) x.0 x.1)
+level_step self n zero ts h = absurd (omega (arith, h))
+level_step self n (suc k) ts h = let minus : suc k - 1 ≡ k = omega arith in rw minus refl
 
 op_suc : (k : ℕ) (t : Token) (o : Option Infix) → of_level (k + 1) (infix_at t.kind) ≡ o → of_level (suc k) (infix_at t.kind) ≡ o
 op_suc k t o h = let e : k + 1 ≡ suc k = omega arith in subst (λ j. of_level j (infix_at t.kind) ≡ o) e h

@@ -19,7 +19,8 @@ use c_tree::Expr;
 use sqlite_items::{Boxed, Items};
 use std::alloc::Global;
 
-type Reading<'a> = Result<(Expr, u32, &'a [Token]), Fault>;
+/// A tree, its depth and the tokens behind it.
+pub type Reading<'a> = Result<(Boxed<Expr>, u32, &'a [Token]), Fault>;
 
 fn is_place(e: &Expr) -> bool
     ensures { result ≡ is_unary e.now }
@@ -49,28 +50,21 @@ fn infix_of_level(k: u32, kind: TokenKind) -> Option<Infix>
     }
 }
 
-fn make_bump(alloc: Global, up: bool, place: Expr, at: u32) -> Result<Expr, Fault>
+fn make_bump(alloc: Global, up: bool, place: Boxed<Expr>, at: u32) -> Result<Boxed<Expr>, Fault>
     ensures { MatchResult result (λ e. e ≡ Expr.Bump up false place at) (λ e. e ≡ OutOfMemory) }
 {
-    let place = Boxed::new(alloc, place)?;
-    Ok(Expr::Bump {
-        up,
-        before: false,
-        place,
-        at,
-    })
+    let before = false;
+    Ok(Boxed::new(alloc, Expr::Bump { up, before, place, at })?)
 }
 
-fn make_comma(alloc: Global, left: Expr, right: Expr, at: u32) -> Result<Expr, Fault>
+fn make_comma(alloc: Global, left: Boxed<Expr>, right: Boxed<Expr>, at: u32) -> Result<Boxed<Expr>, Fault>
     ensures { MatchResult result (λ e. e ≡ Expr.Comma left right at) (λ e. e ≡ OutOfMemory) }
 {
-    let left = Boxed::new(alloc, left)?;
-    let right = Boxed::new(alloc, right)?;
-    Ok(Expr::Comma { left, right, at })
+    Ok(Boxed::new(alloc, Expr::Comma { left, right, at })?)
 }
 
 /// The signs `++` and `--` behind an operand.
-fn read_bumps<'a>(alloc: Global, n: u32, place: Expr, d: u32, tokens: &'a [Token]) -> Reading<'a>
+fn read_bumps<'a>(alloc: Global, n: u32, place: Boxed<Expr>, d: u32, tokens: &'a [Token]) -> Reading<'a>
     requires small { n < 2 ^ 16 }
     requires deep { (d ≡ depth place) × (d ≤ n + 1) }
     ensures gives { Gives (λ x. (x.0, x.2.now)) result (bumps n (suc n) place tokens.now) }
@@ -106,22 +100,15 @@ fn read_primary<'a>(alloc: Global, n: u32, tokens: &'a [Token]) -> Reading<'a>
         Some((t, rest)) => match t.kind {
             TokenKind::Number { value, is_unsigned } => {
                 let at = t.at;
-                Ok((
-                    Expr::Literal {
-                        value,
-                        is_unsigned,
-                        at,
-                    },
-                    1,
-                    rest,
-                ))
+                let e = Expr::Literal { value, is_unsigned, at };
+                Ok((Boxed::new(alloc, e)?, 1, rest))
             }
             TokenKind::Name(name) => read_named(alloc, n, name, t.at, rest),
             TokenKind::Sign(Punct::OpenParen) => {
                 let (of, d, rest) = read_comma(alloc, n, rest)?;
                 let rest = after_close_paren(rest)?;
-                let of = Boxed::new(alloc, of)?;
-                Ok((Expr::Paren { of, at: t.at }, d + 1, rest))
+                let at = t.at;
+                Ok((Boxed::new(alloc, Expr::Paren { of, at })?, d + 1, rest))
             }
             _ => Err(Fault::NoProgram { left: tokens.len() }),
         },
@@ -136,19 +123,20 @@ fn read_named<'a>(alloc: Global, n: u32, name: u32, at: u32, tokens: &'a [Token]
     ensures deep { IfOk result (λ x. (x.1 ≡ depth x.0) × (x.1 ≤ n + 1)) }
 {
     match tokens.split_first() {
-        None => Ok((Expr::Name { name, at }, 1, tokens)),
+        None => Ok((Boxed::new(alloc, Expr::Name { name, at })?, 1, tokens)),
         Some((t, rest)) => match t.kind {
             TokenKind::Sign(Punct::OpenBracket) => {
                 let (index, d, rest) = read_comma(alloc, n, rest)?;
                 let rest = after_close_bracket(rest)?;
-                let index = Boxed::new(alloc, index)?;
-                Ok((Expr::Index { name, index, at }, d + 1, rest))
+                let e = Expr::Index { name, index, at };
+                Ok((Boxed::new(alloc, e)?, d + 1, rest))
             }
             TokenKind::Sign(Punct::OpenParen) => {
                 let (args, d, rest) = read_call(alloc, n, rest)?;
-                Ok((Expr::Call { name, args, at }, d + 1, rest))
+                let e = Expr::Call { name, args, at };
+                Ok((Boxed::new(alloc, e)?, d + 1, rest))
             }
-            _ => Ok((Expr::Name { name, at }, 1, tokens)),
+            _ => Ok((Boxed::new(alloc, Expr::Name { name, at })?, 1, tokens)),
         },
     }
 }
@@ -190,7 +178,7 @@ fn read_arguments<'a>(
             Ok(x) => x,
             Err(e) => return Err(e),
         };
-        args.push(e)?;
+        args.push(e.into_inner())?;
         deepest = deepest.max(d);
         let Some((t, next)) = behind.split_first() else {
             return Err(Fault::NoProgram { left: 0 });
@@ -230,19 +218,16 @@ fn read_level<'a>(alloc: Global, n: u32, k: u32, tokens: &'a [Token]) -> Reading
     ensures gives { Gives (λ x. (x.0, x.2.now)) result (level (read n) n k tokens.now) }
     ensures deep { IfOk result (λ x. (x.1 ≡ depth x.0) × (x.1 ≤ n + 1)) }
 {
-    let (mut left, mut d, mut rest) = read_unary(alloc, n, tokens)?;
-    for j in 0..k {
-        (left, d, rest) = match read_chain(alloc, n, j, left, d, rest) {
-            Ok(x) => x,
-            Err(e) => return Err(e),
-        };
+    if k == 0 {
+        return read_unary(alloc, n, tokens);
     }
-    Ok((left, d, rest))
+    let (left, d, rest) = read_level(alloc, n, k - 1, tokens)?;
+    read_chain(alloc, n, k - 1, left, d, rest)
 }
 
 /// Further operands of the level `k + 1`, behind what has been read.
 #[cycle(read)]
-fn read_chain<'a>(alloc: Global, n: u32, k: u32, left: Expr, d: u32, tokens: &'a [Token]) -> Reading<'a>
+fn read_chain<'a>(alloc: Global, n: u32, k: u32, left: Boxed<Expr>, d: u32, tokens: &'a [Token]) -> Reading<'a>
     requires small { (n < 2 ^ 16) × (k < 2 ^ 16) }
     requires deep { (d ≡ depth left) × (d ≤ n + 1) }
     ensures gives { Gives (λ x. (x.0, x.2.now)) result (chain (read n) n k (suc n) left tokens.now) }
@@ -283,7 +268,7 @@ fn cond_layer<'a>(alloc: Global, n: u32, tokens: &'a [Token]) -> Reading<'a>
 
 /// What follows a test.
 #[cycle(read)]
-fn read_choose<'a>(alloc: Global, n: u32, test: Expr, d: u32, tokens: &'a [Token]) -> Reading<'a>
+fn read_choose<'a>(alloc: Global, n: u32, test: Boxed<Expr>, d: u32, tokens: &'a [Token]) -> Reading<'a>
     requires small { n < 2 ^ 16 }
     requires deep { (d ≡ depth test) × (d ≤ n + 1) }
     ensures gives { Gives (λ x. (x.0, x.2.now)) result (after_test (read n) n test tokens.now) }
@@ -299,11 +284,9 @@ fn read_choose<'a>(alloc: Global, n: u32, test: Expr, d: u32, tokens: &'a [Token
                 let (yes, e, rest) = read_comma(alloc, n, rest)?;
                 let rest = after_colon(rest)?;
                 let (no, f, rest) = read_cond(alloc, n, rest)?;
-                let test = Boxed::new(alloc, test)?;
-                let yes = Boxed::new(alloc, yes)?;
-                let no = Boxed::new(alloc, no)?;
                 let at = t.at;
-                Ok((Expr::Choose { test, yes, no, at }, 1 + d.max(e.max(f)), rest))
+                let choice = Expr::Choose { test, yes, no, at };
+                Ok((Boxed::new(alloc, choice)?, 1 + d.max(e.max(f)), rest))
             }
             _ => Ok((test, d, tokens)),
         },
@@ -322,7 +305,7 @@ fn assign_layer<'a>(alloc: Global, n: u32, tokens: &'a [Token]) -> Reading<'a>
 
 /// What follows the left side of an assignment.
 #[cycle(read)]
-fn read_value<'a>(alloc: Global, n: u32, place: Expr, d: u32, tokens: &'a [Token]) -> Reading<'a>
+fn read_value<'a>(alloc: Global, n: u32, place: Boxed<Expr>, d: u32, tokens: &'a [Token]) -> Reading<'a>
     requires small { n < 2 ^ 16 }
     requires deep { (d ≡ depth place) × (d ≤ n + 1) }
     ensures gives { Gives (λ x. (x.0, x.2.now)) result (after_place (read n) n place tokens.now) }
@@ -334,23 +317,13 @@ fn read_value<'a>(alloc: Global, n: u32, place: Expr, d: u32, tokens: &'a [Token
     let Some(op) = assignment_sign(t.kind) else {
         return Ok((place, d, tokens));
     };
-    if !is_place(&place) || d > n {
+    if !is_place(place.get()) || d > n {
         return Err(Fault::NoProgram { left: tokens.len() });
     }
     let (value, e, rest) = read_assign(alloc, n, rest)?;
-    let place = Boxed::new(alloc, place)?;
-    let value = Boxed::new(alloc, value)?;
     let at = t.at;
-    Ok((
-        Expr::Assign {
-            op,
-            place,
-            value,
-            at,
-        },
-        1 + d.max(e),
-        rest,
-    ))
+    let assign = Expr::Assign { op, place, value, at };
+    Ok((Boxed::new(alloc, assign)?, 1 + d.max(e), rest))
 }
 
 #[cycle(read)]
@@ -365,7 +338,7 @@ fn comma_layer<'a>(alloc: Global, n: u32, tokens: &'a [Token]) -> Reading<'a>
 
 /// Further operands of the comma operator, behind what has been read.
 #[cycle(read)]
-fn read_commas<'a>(alloc: Global, n: u32, left: Expr, d: u32, tokens: &'a [Token]) -> Reading<'a>
+fn read_commas<'a>(alloc: Global, n: u32, left: Boxed<Expr>, d: u32, tokens: &'a [Token]) -> Reading<'a>
     requires small { n < 2 ^ 16 }
     requires deep { (d ≡ depth left) × (d ≤ n + 1) }
     ensures gives { Gives (λ x. (x.0, x.2.now)) result (commas (read n) n (suc n) left tokens.now) }

@@ -114,42 +114,28 @@ pub fn postfix_sign(kind: TokenKind) -> Option<bool>
 pub fn join(
     alloc: Global,
     op: Infix,
-    left: Expr,
-    right: Expr,
+    left: Boxed<Expr>,
+    right: Boxed<Expr>,
     at: u32,
-) -> Result<Expr, Fault>
+) -> Result<Boxed<Expr>, Fault>
     ensures { MatchResult result (λ e. e ≡ joined op left right at) (λ e. e ≡ OutOfMemory) }
 {
-    let left = Boxed::new(alloc, left)?;
-    let right = Boxed::new(alloc, right)?;
-    Ok(match op {
-        Infix::Plain(op) => Expr::Binary {
-            op,
-            left,
-            right,
-            at,
-        },
-        Infix::Logic(is_and) => Expr::Logic {
-            is_and,
-            left,
-            right,
-            at,
-        },
-    })
+    let e = match op {
+        Infix::Plain(op) => Expr::Binary { op, left, right, at },
+        Infix::Logic(is_and) => Expr::Logic { is_and, left, right, at },
+    };
+    Ok(Boxed::new(alloc, e)?)
 }
 
 /// An operand with a sign before it, which stands at the byte `at`.
-pub fn put_before(alloc: Global, op: Prefix, of: Expr, at: u32) -> Result<Expr, Fault>
+pub fn put_before(alloc: Global, op: Prefix, of: Boxed<Expr>, at: u32) -> Result<Boxed<Expr>, Fault>
     ensures { MatchResult result (λ e. e ≡ prefixed op of at) (λ e. e ≡ OutOfMemory) }
 {
-    let of = Boxed::new(alloc, of)?;
-    Ok(match op {
-        Prefix::Plain(op) => Expr::Unary { op, of, at },
-        Prefix::Bump(up) => Expr::Bump {
-            up,
-            before: true,
-            place: of,
-            at,
-        },
-    })
+    let before = true;
+    let place = of;
+    let e = match op {
+        Prefix::Plain(op) => Expr::Unary { op, of: place, at },
+        Prefix::Bump(up) => Expr::Bump { up, before, place, at },
+    };
+    Ok(Boxed::new(alloc, e)?)
 }

@@ -2,10 +2,11 @@ use Rattle.std.proofs.Common.{rules, ◌≡◌, ◌+◌, ◌≤◌, ◌-◌, suc
 use Rattle.c_tree.specs.declared.tree.Expr.{Expr, Comma}
 use Rattle.c_tree.specs.Sizes.{expression_depth as depth, greatest}
 use Rattle.c_parser.specs.Expressions.{comma, assign, cond, binary}
+use Rattle.c_lexer.specs.declared.token.Token.{Token}
 use Rattle.c_parser.specs.Operators.{joined}
 use Rattle.c_parser.specs.ReadExpressions.{read, chain, arguments, commas, level}
 use Rattle.c_parser.proofs.Parts.{depth_joined, depth_comma, depth_positive}
-use Rattle.c_parser.proofs.Steps.{read_step, level_none, level_next, chain_none, chain_deep, chain_fails, chain_turn, commas_none, commas_deep, commas_fails, commas_turn, with_front, shorter, arguments_on, arguments_end, arguments_none, greatest_more, fails_via}
+use Rattle.c_parser.proofs.Steps.{read_step, level_step, chain_none, chain_deep, chain_fails, chain_turn, commas_none, commas_deep, commas_fails, commas_turn, with_front, shorter, arguments_on, arguments_end, arguments_none, greatest_more, fails_via}
 use Rattle.c_parser.proofs.expressions.+read.Goals as goal
 
 plus_one : (n : ℕ) → 1 + n ≡ suc n
@@ -23,8 +24,56 @@ read_cond-returns-clause-gives t c = rw (read_step c.args.n cond c.args.tokens.n
 pub read_part-returns-clause-gives : goal.read_part-returns-clause-gives
 read_part-returns-clause-gives t c = rw (read_step c.args.n (binary c.args.k) c.args.tokens.now (omega arith)) c.read_level.ensures.gives
 
+pub read_level-returns-clause-gives : goal.read_level-returns-clause-gives
+read_level-returns-clause-gives t c = rw (level_step (read c.args.n) c.args.n c.args.k c.args.tokens.now (omega arith), c.in_ok-left.ensures.gives) c.read_chain.ensures.gives
+
 pub read_chain-loop-t-init : goal.read_chain-loop-t-init
 read_chain-loop-t-init t c = (suc c.args.n, refl, omega (arith, c.requires, depth_positive c.args.left), c.requires.deep.0, c.requires.deep.1)
 
 pub read_commas-loop-t-init : goal.read_commas-loop-t-init
 read_commas-loop-t-init t c = (suc c.args.n, refl, omega (arith, c.requires, depth_positive c.args.left), c.requires.deep.0, c.requires.deep.1)
+
+pub read_chain-returns-then-d-n-clause-gives : goal.read_chain-returns-then-d-n-clause-gives
+read_chain-returns-then-d-n-clause-gives t c = sym c.loop-t.invariant.1 ∙ chain_deep (read c.args.n) c.args.n c.args.k c.loop-t.invariant.0 c.loop-t.left c.loop-t.rest.now c.in-Some.t.now c.in-Some.behind.now c.in-Some-infix_of_level.op c.in-Some.ensures.cases.0 (omega (arith, c.loop-t.invariant)) (sym c.infix_of_level.ensures ∙ c.in-Some-infix_of_level.is) (omega (arith, c.loop-t.invariant, c.if-d-n.true))
+
+pub read_chain-loop-t-preserved : goal.read_chain-loop-t-preserved
+read_chain-loop-t-preserved t c = let next : (g : ℕ) × (c.loop-t.invariant.0 ≡ suc g) × (chain (read c.args.n) c.args.n c.args.k c.loop-t.invariant.0 c.loop-t.left c.loop-t.rest.now ≡ chain (read c.args.n) c.args.n c.args.k g (joined c.in-Some-infix_of_level.op c.loop-t.left c.in-Ok.x.0 c.in-Some.t.now.at) c.in-Ok.x.2.now) = chain_turn (read c.args.n) c.args.n c.args.k c.loop-t.invariant.0 c.loop-t.left c.loop-t.rest.now c.in-Some.t.now c.in-Some.behind.now c.in-Some-infix_of_level.op c.in-Ok.x.0 c.in-Ok.x.2.now c.in-Some.ensures.cases.0 (omega (arith, c.loop-t.invariant)) (sym c.infix_of_level.ensures ∙ c.in-Some-infix_of_level.is) (omega (arith, c.loop-t.invariant, c.if-d-n.false)) c.in-Ok.ensures.gives in (next.0, ap (λ e. chain (read c.args.n) c.args.n c.args.k next.0 e c.in-Ok.x.2.now) c.in_ok-left.ensures ∙ sym next.2 ∙ c.loop-t.invariant.1, omega (arith, c.loop-t.invariant, next.1, c.max-d.ensures), omega (arith, c.loop-t.invariant, c.in-Ok.ensures.deep, c.max-d.ensures, depth_joined c.in-Some-infix_of_level.op c.loop-t.left c.in-Ok.x.0 c.in-Some.t.now.at, ap depth c.in_ok-left.ensures), omega (arith, c.loop-t.invariant, c.in-Ok.ensures.deep, c.max-d.ensures, c.if-d-n.false))
+
+pub read_chain-returns-in_default-infix_of_level-clause-gives : goal.read_chain-returns-in_default-infix_of_level-clause-gives
+read_chain-returns-in_default-infix_of_level-clause-gives t c = sym c.loop-t.invariant.1 ∙ chain_none (read c.args.n) c.args.n c.args.k c.loop-t.invariant.0 c.loop-t.left c.loop-t.rest.now c.in-Some.t.now c.in-Some.behind.now c.in-Some.ensures.cases.0 (omega (arith, c.loop-t.invariant)) (sym c.infix_of_level.ensures ∙ c.in_default-infix_of_level.is)
+
+pub read_chain-returns-in-Err-clause-gives : goal.read_chain-returns-in-Err-clause-gives
+read_chain-returns-in-Err-clause-gives t c = fails_via c.in-Err.e (read c.args.n (binary c.args.k) c.in-Some.behind.now) (chain (read c.args.n) c.args.n c.args.k (suc c.args.n) c.args.left c.args.tokens.now) c.in-Err.ensures.gives (λ z. sym c.loop-t.invariant.1 ∙ chain_fails (read c.args.n) c.args.n c.args.k c.loop-t.invariant.0 c.loop-t.left c.loop-t.rest.now c.in-Some.t.now c.in-Some.behind.now c.in-Some-infix_of_level.op c.in-Some.ensures.cases.0 (omega (arith, c.loop-t.invariant)) (sym c.infix_of_level.ensures ∙ c.in-Some-infix_of_level.is) (omega (arith, c.loop-t.invariant, c.if-d-n.false)) z)
+
+pub read_commas-returns-then-not-is_comma-clause-gives : goal.read_commas-returns-then-not-is_comma-clause-gives
+read_commas-returns-then-not-is_comma-clause-gives t c = sym c.loop-t.invariant.1 ∙ commas_none (read c.args.n) c.args.n c.loop-t.invariant.0 c.loop-t.left c.loop-t.rest.now c.in-Some.t.now c.in-Some.behind.now c.in-Some.ensures.cases.0 (omega (arith, c.loop-t.invariant)) (sym c.is_comma.ensures ∙ c.if-not-is_comma.true)
+
+pub read_commas-returns-then-d-n-clause-gives : goal.read_commas-returns-then-d-n-clause-gives
+read_commas-returns-then-d-n-clause-gives t c = sym c.loop-t.invariant.1 ∙ commas_deep (read c.args.n) c.args.n c.loop-t.invariant.0 c.loop-t.left c.loop-t.rest.now c.in-Some.t.now c.in-Some.behind.now c.in-Some.ensures.cases.0 (omega (arith, c.loop-t.invariant)) (sym c.is_comma.ensures ∙ c.if-not-is_comma.false) (omega (arith, c.loop-t.invariant, c.if-d-n.true))
+
+pub read_commas-returns-in-Err-clause-gives : goal.read_commas-returns-in-Err-clause-gives
+read_commas-returns-in-Err-clause-gives t c = fails_via c.in-Err.e (read c.args.n assign c.in-Some.behind.now) (commas (read c.args.n) c.args.n (suc c.args.n) c.args.left c.args.tokens.now) c.in-Err.ensures.gives (λ z. sym c.loop-t.invariant.1 ∙ commas_fails (read c.args.n) c.args.n c.loop-t.invariant.0 c.loop-t.left c.loop-t.rest.now c.in-Some.t.now c.in-Some.behind.now c.in-Some.ensures.cases.0 (omega (arith, c.loop-t.invariant)) (sym c.is_comma.ensures ∙ c.if-not-is_comma.false) (omega (arith, c.loop-t.invariant, c.if-d-n.false)) z)
+
+pub read_commas-loop-t-preserved : goal.read_commas-loop-t-preserved
+read_commas-loop-t-preserved t c = let next : (g : ℕ) × (c.loop-t.invariant.0 ≡ suc g) × (commas (read c.args.n) c.args.n c.loop-t.invariant.0 c.loop-t.left c.loop-t.rest.now ≡ commas (read c.args.n) c.args.n g (Comma c.loop-t.left c.in-Ok.x.0 c.in-Some.t.now.at) c.in-Ok.x.2.now) = commas_turn (read c.args.n) c.args.n c.loop-t.invariant.0 c.loop-t.left c.loop-t.rest.now c.in-Some.t.now c.in-Some.behind.now c.in-Ok.x.0 c.in-Ok.x.2.now c.in-Some.ensures.cases.0 (omega (arith, c.loop-t.invariant)) (sym c.is_comma.ensures ∙ c.if-not-is_comma.false) (omega (arith, c.loop-t.invariant, c.if-d-n.false)) c.in-Ok.ensures.gives in (next.0, ap (λ e. commas (read c.args.n) c.args.n next.0 e c.in-Ok.x.2.now) c.in_ok-left.ensures ∙ sym next.2 ∙ c.loop-t.invariant.1, omega (arith, c.loop-t.invariant, next.1, c.max-d.ensures), omega (arith, c.loop-t.invariant, c.in-Ok.ensures.deep, c.max-d.ensures, depth_comma c.loop-t.left c.in-Ok.x.0 c.in-Some.t.now.at, ap depth c.in_ok-left.ensures), omega (arith, c.loop-t.invariant, c.in-Ok.ensures.deep, c.max-d.ensures, c.if-d-n.false))
+
+more_deep : (es all : List Expr) (e : Expr) (d m r : ℕ) → all ≡ es ++ e ∷ [] → d ≡ greatest (map depth es) → m ≡ depth e → r ≡ max d m → r ≡ greatest (map depth all)
+more_deep es all e d m r h a b c = rw (h, greatest_more es e, ← a, ← b) c
+
+pushed : (args all : List Expr) (x e : Expr) → all ≡ args ++ x ∷ [] → x ≡ e → all ≡ args ++ e ∷ []
+pushed args all x e h g = h ∙ ap (λ z. args ++ z ∷ []) g
+
+pub read_arguments-returns-then-is_closing-clause-gives : goal.read_arguments-returns-then-is_closing-clause-gives
+read_arguments-returns-then-is_closing-clause-gives t c = sym c.loop-x.invariant.2 ∙ arguments_end c.args.n c.loop-x.invariant.0 c.loop-x.args c.loop-x.rest.now c.in-Ok.x.2.now c.in-Ok.x.0 c.in-Some.t.now c.in-Some.next.now c.loop-x.invariant.1 c.in-Ok.ensures.gives c.in-Some.ensures.cases.0 (sym c.is_closing.ensures ∙ c.if-is_closing.true) ∙ ap (λ es. Some (es, c.in-Some.next.now)) (sym (pushed c.loop-x.args c.push.new.self c.into_inner.result c.in-Ok.x.0 c.in_ok-push.ensures.ok c.into_inner.ensures))
+
+pub read_arguments-returns-then-is_closing-clause-deep : goal.read_arguments-returns-then-is_closing-clause-deep
+read_arguments-returns-then-is_closing-clause-deep t c = (more_deep c.loop-x.args c.push.new.self c.in-Ok.x.0 c.loop-x.deepest c.in-Ok.x.1 c.max-deepest.result (pushed c.loop-x.args c.push.new.self c.into_inner.result c.in-Ok.x.0 c.in_ok-push.ensures.ok c.into_inner.ensures) c.loop-x.invariant.3 c.in-Ok.ensures.deep.0 c.max-deepest.ensures, omega (arith, c.max-deepest.ensures, c.loop-x.invariant, c.in-Ok.ensures.deep))
+
+pub read_arguments-returns-then-not-is_comma-clause-gives : goal.read_arguments-returns-then-not-is_comma-clause-gives
+read_arguments-returns-then-not-is_comma-clause-gives t c = sym c.loop-x.invariant.2 ∙ arguments_none c.args.n c.loop-x.invariant.0 c.loop-x.args c.loop-x.rest.now c.in-Ok.x.2.now c.in-Ok.x.0 c.in-Some.t.now c.in-Some.next.now c.loop-x.invariant.1 c.in-Ok.ensures.gives c.in-Some.ensures.cases.0 (sym c.is_closing.ensures ∙ c.if-is_closing.false) (sym c.is_comma.ensures ∙ c.if-not-is_comma.true)
+
+pub read_arguments-loop-x-smaller : goal.read_arguments-loop-x-smaller
+read_arguments-loop-x-smaller t c = omega (arith, shorter c.args.n assign c.loop-x.rest.now c.in-Ok.x.0 c.in-Ok.x.2.now c.in-Ok.ensures.gives, c.in-Some.ensures.cases.1)
+
+pub read_arguments-loop-x-preserved : goal.read_arguments-loop-x-preserved
+read_arguments-loop-x-preserved t c = let all : c.push.new.self ≡ c.loop-x.args ++ c.in-Ok.x.0 ∷ [] = pushed c.loop-x.args c.push.new.self c.into_inner.result c.in-Ok.x.0 c.in_ok-push.ensures.ok c.into_inner.ensures in let next : (g : ℕ) × (length c.in-Some.next.now ≤ g) × (with_front c.loop-x.args (arguments (read c.args.n) c.loop-x.invariant.0 c.loop-x.rest.now) ≡ with_front (c.loop-x.args ++ c.in-Ok.x.0 ∷ []) (arguments (read c.args.n) g c.in-Some.next.now)) = arguments_on c.args.n c.loop-x.invariant.0 c.loop-x.args c.loop-x.rest.now c.in-Ok.x.2.now c.in-Ok.x.0 c.in-Some.t.now c.in-Some.next.now c.loop-x.invariant.1 c.in-Ok.ensures.gives c.in-Some.ensures.cases.0 (sym c.is_comma.ensures ∙ c.if-not-is_comma.false) in (next.0, next.1, ap (λ es. with_front es (arguments (read c.args.n) next.0 c.in-Some.next.now)) all ∙ sym next.2 ∙ c.loop-x.invariant.2, more_deep c.loop-x.args c.push.new.self c.in-Ok.x.0 c.loop-x.deepest c.in-Ok.x.1 c.max-deepest.result all c.loop-x.invariant.3 c.in-Ok.ensures.deep.0 c.max-deepest.ensures, omega (arith, c.max-deepest.ensures, c.loop-x.invariant, c.in-Ok.ensures.deep))

@@ -23,7 +23,7 @@ abbrev pub decreases-read_arguments : goal.decreases-read_arguments
 decreases-read_arguments l = l.n * 2 ^ 20 + 2 ^ 14
 
 abbrev pub decreases-read_level : goal.decreases-read_level
-decreases-read_level l = l.n * 2 ^ 20 + 2 ^ 19
+decreases-read_level l = l.n * 2 ^ 20 + 2 ^ 18 + 1 + l.k
 
 abbrev pub decreases-read_chain : goal.decreases-read_chain
 decreases-read_chain l = l.n * 2 ^ 20 + 2 ^ 18
@@ -54,9 +54,6 @@ decreases-read_assign l = l.n * 2 ^ 20 + 1
 
 abbrev pub decreases-read_cond : goal.decreases-read_cond
 decreases-read_cond l = l.n * 2 ^ 20 + 1
-
-abbrev pub invariant-read_level-loop-j : goal.invariant-read_level-loop-j
-invariant-read_level-loop-j l = (level (read l.n) l.n l.j l.tokens ≡ Some (l.left, l.rest)) × (l.d ≡ depth l.left) × (l.d ≤ l.n + 1)
 
 abbrev pub invariant-read_chain-loop-t : goal.invariant-read_chain-loop-t
 invariant-read_chain-loop-t l = (f : ℕ) × (chain (read l.n) l.n l.k f l.left l.rest ≡ chain (read l.n) l.n l.k (suc l.n) l.fn.left l.tokens) × (l.n + 2 ≤ f + l.d) × (l.d ≡ depth l.left) × (l.d ≤ l.n + 1)
