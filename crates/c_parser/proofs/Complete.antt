@@ -18,7 +18,8 @@ use Rattle.c_parser.specs.Expressions.{Level, comma, assign, cond, binary, postf
 use Rattle.c_parser.specs.ReadExpressions.{Read, Reader, ◌>>=◌, is_unary, kind_of, after, is_close_paren, is_colon, is_close_bracket, arguments, after_argument, next_argument, call_at, named_at, named, primary_at, primary_from, bump_at, bumps, postfix_from, unary_at, unary_from, of_level, turn_at, chain, level, choose_at, after_test, cond_from, assign_at, after_place, assign_from, comma_at, commas, comma_from, layer, read}
 use Rattle.c_parser.proofs.Options.{some_is, none_is, bind_is, length-cons}
 use Rattle.c_parser.proofs.Parts.{depth_positive, depth_literal, depth_name, depth_index, depth_call, depth_paren, depth_bump, depth_prefixed, depth_joined, depth_comma, depth_choose, depth_assign, unary_prefixed, unary_bump, unary_literal, unary_name, unary_index, unary_call, unary_paren}
-use Rattle.c_parser.proofs.Tables.{looseness, head_looseness, infix_loose, infix_stops, of_level_some, assignment_loose, assignment_stops, postfix_loose, postfix_stops, starts, prefix_starts}
+use Rattle.c_parser.proofs.Tables.{looseness, head_looseness, infix_loose, infix_stops, of_level_some, assignment_loose, assignment_stops, postfix_loose, postfix_stops, prefix_starts}
+use Rattle.c_parser.specs.ReadStatements.{starts}
 
 -- how loose a token must be that stands behind an expression of this level
 abbrev pub number : Level → ℕ

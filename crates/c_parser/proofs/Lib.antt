@@ -4,3 +4,8 @@ pub mod Tables
 pub mod Complete
 pub mod Sound
 pub mod Steps
+pub mod StatementParts
+pub mod CompleteLists
+pub mod CompleteStatements
+pub mod SoundLists
+pub mod SoundStatements

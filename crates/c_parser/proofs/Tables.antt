@@ -12,6 +12,7 @@ use Rattle.c_parser.specs.declared.operators.Infix.{Infix}
 use Rattle.c_parser.specs.declared.operators.Prefix.{Prefix}
 use Rattle.c_parser.specs.Operators.{of_sign, infix_of, assignment_of, prefix_of, postfix_of, infix_at, assignment_at, prefix_at, postfix_at}
 use Rattle.c_parser.specs.ReadExpressions.{of_level}
+use Rattle.c_parser.specs.ReadStatements.{starts}
 use Rattle.c_parser.proofs.Options.{some_is, none_is, guard_some}
 
 -- of a sign that is no infix operator
@@ -100,17 +101,6 @@ postfix_stops_at s (Some up) h g = absurd (omega (arith, g, postfix_loose s up h
 pub postfix_stops : (kind : TokenKind) → 1 < looseness kind → postfix_at kind ≡ None
 postfix_stops (kinds.Sign s) h = postfix_stops_at s (postfix_of s) refl h
 postfix_stops _ h = refl
-
--- whether a token of this kind can be an expression's first
-abbrev pub starts_by : Option Prefix → TokenKind → Bool
-starts_by (Some op) kind = true
-starts_by None (kinds.Number value is_unsigned) = true
-starts_by None (kinds.Name n) = true
-starts_by None (kinds.Sign signs.OpenParen) = true
-starts_by None _ = false
-
-abbrev pub starts : TokenKind → Bool
-starts kind = starts_by (prefix_at kind) kind
 
 pub prefix_starts : (s : Punct) (op : Prefix) → prefix_of s ≡ Some op → starts (kinds.Sign s) ≡ true
 prefix_starts s op h = rw h refl

@@ -3,3 +3,7 @@ pub mod Operators
 pub mod Expressions
 pub mod ReadExpressions
 pub mod Gives
+pub mod Specifiers
+pub mod Lists
+pub mod Statements
+pub mod ReadStatements

@@ -5,3 +5,4 @@ mod expressions;
 mod fault;
 mod marks;
 mod operators;
+mod specifiers;
