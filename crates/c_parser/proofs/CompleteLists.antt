@@ -65,10 +65,10 @@ specifiers_stop s t ts h = ap (specifier_at (λ m. specifiers m ts) s t ts) h
 abbrev pub Named : List Token → Type 0
 Named ts = (n : ℕ) × (p : Place) × (us : List Token) × (ts ≡ mark (kinds.Name n) p ∷ us)
 
-named_with : (a b : List Token) → Named a → Named (a ++ b)
+pub named_with : (a b : List Token) → Named a → Named (a ++ b)
 named_with a b h = (h.0, h.1, h.2 ++ b, ap (λ x. x ++ b) h.3)
 
-local_named_is : (ty : Ty) (c : Bool) (ts : List Token) (l : Local) → ReadsLocal ty c ts l → Named ts
+pub local_named_is : (ty : Ty) (c : Bool) (ts : List Token) (l : Local) → ReadsLocal ty c ts l → Named ts
 local_named_is ty c _ _ (bare n p) = (n, p, _, refl)
 local_named_is ty c _ _ (valued n p q d) = (n, p, _, refl)
 

@@ -9,3 +9,7 @@ pub mod CompleteLists
 pub mod CompleteStatements
 pub mod SoundLists
 pub mod SoundStatements
+pub mod ListSteps
+pub mod CompleteItems
+pub mod SoundItems
+pub mod Programs

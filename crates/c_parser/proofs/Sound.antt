@@ -37,7 +37,7 @@ pub close_paren_is : (kind : TokenKind) → is_close_paren kind ≡ true → kin
 close_paren_is (kinds.Sign signs.CloseParen) h = refl
 close_paren_is _ h = absurd cc
 
-close_bracket_is : (kind : TokenKind) → is_close_bracket kind ≡ true → kind ≡ kinds.Sign signs.CloseBracket
+pub close_bracket_is : (kind : TokenKind) → is_close_bracket kind ≡ true → kind ≡ kinds.Sign signs.CloseBracket
 close_bracket_is (kinds.Sign signs.CloseBracket) h = refl
 close_bracket_is _ h = absurd cc
 

@@ -7,3 +7,5 @@ pub mod Specifiers
 pub mod Lists
 pub mod Statements
 pub mod ReadStatements
+pub mod Items
+pub mod ReadItems

@@ -3,6 +3,9 @@
 
 mod expressions;
 mod fault;
+mod laws;
 mod marks;
 mod operators;
 mod specifiers;
+
+pub use laws::one_tree;
