@@ -135,7 +135,7 @@ maybe_whole : {ts : List Token} {e : Option Expr} → ReadsMaybe ts e → (n : �
 maybe_whole nothing n t rest h g k = ap (λ b. maybe_at n b (t ∷ rest)) g
 maybe_whole (just {ts} {e} d) n t rest h g k = let b : Begins ts = begins d in ap (λ x. maybe_at n x (ts ++ t ∷ rest)) (ap (λ us. starts_here (us ++ t ∷ rest)) b.2 ∙ b.3) ∙ bind_is (λ x. Some (Some x.0, x.1)) (is_read d n (t ∷ rest) h k)
 
-clause_declares : (n : ℕ) (kind : TokenKind) (t : Token) (ts : List Token) → is_specifier kind ≡ true → clause_at n kind t ts ≡ (declaration n (t ∷ ts) >>= λ x. Some (Declare x.0, x.1))
+pub clause_declares : (n : ℕ) (kind : TokenKind) (t : Token) (ts : List Token) → is_specifier kind ≡ true → clause_at n kind t ts ≡ (declaration n (t ∷ ts) >>= λ x. Some (Declare x.0, x.1))
 clause_declares n (kinds.Sign s) t ts h = absurd (clash h refl)
 clause_declares n (kinds.Word w) t ts h = rw h refl
 clause_declares n _ t ts h = absurd (clash h refl)

@@ -9,12 +9,14 @@ use Rattle.c_tree.specs.Sizes.{local_depth, statement_depth, greatest}
 use Rattle.c_tree.specs.declared.tree.Ty.{Ty}
 use Rattle.c_tree.specs.declared.tree.Local.{Local}
 use Rattle.c_tree.specs.declared.tree.Stmt.{Stmt, Declare}
-use Rattle.c_parser.specs.ReadExpressions.{Read, ◌>>=◌, is_comma_sign}
+use Rattle.c_parser.specs.declared.specifiers.Specifiers.{Specifiers}
+use Rattle.c_parser.specs.Specifiers.{no_words, is_local, type_of}
+use Rattle.c_parser.specs.ReadExpressions.{Read, ◌>>=◌, after, is_comma_sign}
 use Rattle.c_parser.specs.Statements.{ReadsLocal, Declares}
-use Rattle.c_parser.specs.ReadStatements.{more_at, separated, local, declaration, declare_from, part, body, body_at, statement, statement_at, is_close_brace, is_specifier}
+use Rattle.c_parser.specs.ReadStatements.{specifiers, is_semicolon, more_at, separated, local, declaration, declaration_of, declare_from, part, body, body_at, statement, statement_from, declared, clause, clause_from, is_close_brace, is_specifier}
 use Rattle.c_parser.proofs.Options.{some_is, none_is, clash, bind_is, bind_some, length-cons}
 use Rattle.c_parser.proofs.CompleteLists.{NotEmpty, Named, named_length, local_named_is, Specified, declares_specified}
-use Rattle.c_parser.proofs.CompleteStatements.{BeginsStatement, begins_statement, body_step}
+use Rattle.c_parser.proofs.CompleteStatements.{BeginsStatement, begins_statement, body_step, clause_declares}
 use Rattle.c_parser.proofs.SoundLists.{FoundOf, SoundPart, sizes, local_sound, declaration_sound}
 use Rattle.c_parser.proofs.SoundStatements.{FoundStatement, sound}
 
@@ -104,6 +106,24 @@ pub body_empty : (n f : ℕ) (front : List Stmt) (ts : List Token) → ts ≡ []
 body_empty n zero front ts h = refl
 body_empty n (suc f) front ts h = ap (λ us. fronted front (body (statement n) n (suc f) us)) h
 
-pub statement_step : (n : ℕ) (t : Token) (ts : List Token) → 0 < n → statement n (t ∷ ts) ≡ statement_at (statement (n - 1)) (n - 1) t.kind t ts
-statement_step zero t ts h = absurd (omega (arith, h))
-statement_step (suc n) t ts h = let minus : suc n - 1 ≡ n = omega arith in rw minus refl
+pub statement_step : (n : ℕ) (ts : List Token) → 0 < n → statement n ts ≡ statement_from (statement (n - 1)) (n - 1) ts
+statement_step zero ts h = absurd (omega (arith, h))
+statement_step (suc n) ts h = let minus : suc n - 1 ≡ n = omega arith in rw minus refl
+
+pub declare_step : (n : ℕ) (ts : List Token) → 0 < n → declare_from n ts ≡ declared (n - 1) ts
+declare_step zero ts h = absurd (omega (arith, h))
+declare_step (suc n) ts h = let minus : suc n - 1 ≡ n = omega arith in rw minus refl
+
+pub clause_step : (n : ℕ) (ts : List Token) → 0 < n → clause n ts ≡ clause_from (n - 1) ts
+clause_step zero ts h = absurd (omega (arith, h))
+clause_step (suc n) ts h = let minus : suc n - 1 ≡ n = omega arith in rw minus refl
+
+pub nothing_left : (ts : List Token) → length ts ≡ 0 → ts ≡ []
+nothing_left [] h = refl
+nothing_left (t ∷ ts) h = absurd (omega (arith, h, length-cons t ts))
+
+pub declaration_is : (n : ℕ) (ts : List Token) (s : Specifiers) (rest : List Token) (ty : Ty) (ls : List Local) (behind last : List Token) → (s, rest) ≡ specifiers no_words ts → is_local s ≡ true → ty ≡ type_of s → separated (local n ty s.is_const) (length rest) rest ≡ Some (ls, behind) → after is_semicolon behind ≡ Some last → declaration n ts ≡ Some (ls, last)
+declaration_is n ts s rest ty ls behind last h i e g k = ap (declaration_of n) (sym h) ∙ rw (i, ← e, g, k) refl
+
+pub clause_is : (n : ℕ) (ts : List Token) (t : Token) (us : List Token) → ts ≡ t ∷ us → is_specifier t.kind ≡ true → clause_from n ts ≡ declared n ts
+clause_is n ts t us h g = ap (clause_from n) h ∙ clause_declares n t.kind t us g ∙ ap (declared n) (sym h)

@@ -103,10 +103,13 @@ declaration_of n s = if is_local s.0 then (separated (local n (type_of s.0) s.0.
 abbrev pub declaration : ℕ → List Token → Read (List Local)
 declaration n ts = declaration_of n (specifiers no_words ts)
 
+abbrev pub declared : ℕ → List Token → Read Stmt
+declared n ts = declaration n ts >>= λ x. Some (Declare x.0, x.1)
+
 -- a declaration that is a statement of depth n at most
 abbrev pub declare_from : ℕ → List Token → Read Stmt
 declare_from zero ts = None
-declare_from (suc n) ts = declaration n ts >>= λ x. Some (Declare x.0, x.1)
+declare_from (suc n) ts = declared n ts
 
 -- an expression statement; n is the depth that is left for the expression
 abbrev pub value_from : ℕ → List Token → Read Stmt
@@ -127,12 +130,15 @@ maybe n ts = maybe_at n (starts_here ts) ts
 -- the first clause of a `for`, of depth n at most
 abbrev pub clause_at : ℕ → TokenKind → Token → List Token → Read Stmt
 clause_at n (kinds.Sign signs.Semicolon) t ts = Some (Empty, ts)
-clause_at n kind t ts = if is_specifier kind then (declaration n (t ∷ ts) >>= λ x. Some (Declare x.0, x.1)) else value_from n (t ∷ ts)
+clause_at n kind t ts = if is_specifier kind then declared n (t ∷ ts) else value_from n (t ∷ ts)
+
+abbrev pub clause_from : ℕ → List Token → Read Stmt
+clause_from n [] = None
+clause_from n (t ∷ ts) = clause_at n t.kind t ts
 
 abbrev pub clause : ℕ → List Token → Read Stmt
 clause zero ts = None
-clause (suc n) [] = None
-clause (suc n) (t ∷ ts) = clause_at n t.kind t ts
+clause (suc n) ts = clause_from n ts
 
 -- an expression between parentheses
 abbrev pub tested : ℕ → List Token → Read Expr
@@ -152,13 +158,17 @@ body self n zero ts = None
 body self n (suc f) [] = None
 body self n (suc f) (t ∷ ts) = body_at self n (body self n f) t.kind t ts
 
+-- an `if` without `else`
+abbrev pub ended : Expr → Stmt → List Token → Read Stmt
+ended test a ts = Some (If test a None, ts)
+
 -- what follows the first statement of an `if`
 abbrev pub else_at : (List Token → Read Stmt) → Expr → Stmt → TokenKind → Token → List Token → Read Stmt
 else_at self test a (kinds.Word words.Else) t ts = self ts >>= λ x. Some (If test a (Some x.0), x.1)
-else_at self test a _ t ts = Some (If test a None, t ∷ ts)
+else_at self test a _ t ts = ended test a (t ∷ ts)
 
 abbrev pub after_then : (List Token → Read Stmt) → Expr → Stmt → List Token → Read Stmt
-after_then self test a [] = Some (If test a None, [])
+after_then self test a [] = ended test a []
 after_then self test a (t ∷ ts) = else_at self test a t.kind t ts
 
 abbrev pub if_from : (List Token → Read Stmt) → ℕ → List Token → Read Stmt
@@ -189,7 +199,10 @@ statement_at self n (kinds.Word words.Return) t ts = return_from n t.at ts
 statement_at self n _ t ts = value_from n (t ∷ ts)
 
 -- a statement of depth n at most
+abbrev pub statement_from : (List Token → Read Stmt) → ℕ → List Token → Read Stmt
+statement_from self n [] = None
+statement_from self n (t ∷ ts) = statement_at self n t.kind t ts
+
 abbrev pub statement : ℕ → List Token → Read Stmt
 statement zero ts = None
-statement (suc n) [] = None
-statement (suc n) (t ∷ ts) = statement_at (statement n) n t.kind t ts
+statement (suc n) ts = statement_from (statement n) n ts
