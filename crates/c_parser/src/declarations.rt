@@ -32,11 +32,31 @@ fn read_initialiser<'a>(
         if let TokenKind::Sign(Punct::Equal) = t.kind {
             let (e, d, rest) = read_assign(alloc, n, rest)?;
             let first = Some(e.into_inner());
-            return Ok((Local { ty, is_const, name, at, first }, d, rest));
+            return Ok((
+                Local {
+                    ty,
+                    is_const,
+                    name,
+                    at,
+                    first,
+                },
+                d,
+                rest,
+            ));
         }
     }
     let first = None;
-    Ok((Local { ty, is_const, name, at, first }, 0, tokens))
+    Ok((
+        Local {
+            ty,
+            is_const,
+            name,
+            at,
+            first,
+        },
+        0,
+        tokens,
+    ))
 }
 
 fn read_local<'a>(

@@ -12,7 +12,10 @@ ghost use Rattle.c_parser.specs.ReadStatements.{statement, ended, statement_from
 use crate::declarations::read_declaration;
 use crate::expressions::read_comma;
 use crate::fault::Fault;
-use crate::marks::{after_close_paren, after_open_paren, after_semicolon, after_while, is_closing_brace, is_specifier_word, starts_expression};
+use crate::marks::{
+    after_close_paren, after_open_paren, after_semicolon, after_while, is_closing_brace,
+    is_specifier_word, starts_expression,
+};
 use c_lexer::{Keyword, Punct, Token, TokenKind};
 use c_tree::{Expr, Stmt};
 use sqlite_items::{Boxed, Items};
@@ -343,6 +346,14 @@ fn read_for<'a>(alloc: Global, n: u32, tokens: &'a [Token]) -> Reading<'a>
     let (body, g, rest) = read_statement(alloc, n, rest)?;
     let test = unboxed(test);
     let next = unboxed(next);
-    let c = Boxed::new(alloc, Stmt::For { first, test, next, body })?;
+    let c = Boxed::new(
+        alloc,
+        Stmt::For {
+            first,
+            test,
+            next,
+            body,
+        },
+    )?;
     Ok((c, 1 + d.max(e.max(f.max(g))), rest))
 }
