@@ -1,38 +1,37 @@
 -- What is in the grammar of items is read.
-use Rattle.std.proofs.Common.{◌≡◌, ◌≤◌, ◌<◌, ◌+◌, ◌++◌, ℕ, zero, suc, Bool, true, false, List, [], ◌∷◌, map, max, Option, Some, None, refl, sym, ap, ◌∙◌, arith, subst, length, inl, inr}
+use Rattle.std.proofs.Common.{◌≡◌, ◌≤◌, ◌<◌, ◌++◌, ℕ, zero, suc, Bool, true, false, List, [], ◌∷◌, map, Option, Some, None, refl, sym, ap, ◌∙◌, arith, length, inl, inr}
 use Rattle.std.specs.Prelude.{◌⊎◌, if◌then◌else◌, not, ◌&&◌, ◌||◌}
-use Rattle.std.proofs.lemmas.List.{append_assoc, length-append, append-nil}
+use Rattle.std.proofs.lemmas.List.{append_assoc, length-append}
 use Rattle.c_lexer.specs.declared.token.Token.{Token}
 use Rattle.c_lexer.specs.declared.token.TokenKind.{TokenKind}
 use Rattle.c_lexer.specs.declared.token.TokenKind.TheVariants as kinds
 use Rattle.c_lexer.specs.declared.token.Keyword.{Keyword}
 use Rattle.c_lexer.specs.declared.token.Keyword.TheVariants as words
 use Rattle.c_lexer.specs.declared.token.Punct.TheVariants as signs
-use Rattle.c_tree.specs.Sizes.{expression_depth, statement_depth, global_depth, item_depth, body_depth, shape_depth, or_zero, greatest}
+use Rattle.c_tree.specs.Sizes.{expression_depth, global_depth, item_depth, body_depth, or_zero, greatest}
 use Rattle.c_tree.specs.declared.tree.Expr.{Expr}
 use Rattle.c_tree.specs.declared.tree.Ty.{Ty}
 use Rattle.c_tree.specs.declared.tree.Stmt.{Stmt}
 use Rattle.c_tree.specs.declared.tree.Shape.TheVariants as shapes
 use Rattle.c_tree.specs.declared.tree.GlobalVar.{GlobalVar}
 use Rattle.c_tree.specs.declared.tree.Param.{Param}
-use Rattle.c_tree.specs.declared.tree.Function.{Function}
 use Rattle.c_tree.specs.declared.tree.TopItem.{TopItem}
 use Rattle.c_tree.specs.declared.tree.TopItem.TheVariants as items
 use Rattle.c_parser.specs.declared.specifiers.Specifiers.{Specifiers}
 use Rattle.c_parser.specs.Places.{Place, mark, sign, word}
 use Rattle.c_parser.specs.Expressions.{cond, Reads}
-use Rattle.c_parser.specs.Specifiers.{no_words, with_word, Spells, none, more, is_value, is_local, is_function, type_of}
+use Rattle.c_parser.specs.Specifiers.{with_word, Spells, none, more, is_value, is_local, is_function, type_of}
 use Rattle.c_parser.specs.Lists.{Separated, one}
 use Rattle.c_parser.specs.Lists.Separated.{more as further}
 use Rattle.c_parser.specs.Statements.{ReadsBody}
 use Rattle.c_parser.specs.Items.{ReadsLength, no_length, a_length, LastComma, no_comma, a_comma, ReadsGlobal, scalar, scalar_valued, array, array_valued, first_at, ReadsParam, named, unnamed, ReadsParams, nothing, void, params, all_named, ReadsItem, globals, prototype, function, ReadsItems, end, item}
-use Rattle.c_parser.specs.ReadExpressions.{Read, ◌>>=◌, read, after, is_comma_sign, is_close_paren, is_close_bracket}
-use Rattle.c_parser.specs.ReadStatements.{with_kind, specifiers, separated, is_semicolon, is_open_paren, is_close_brace, is_specifier, starts, statement, body}
-use Rattle.c_parser.specs.ReadItems.{body_from, is_opening_brace, brace_at, ends_here, next_value, after_value, values, length_at, closes_here, array_length, Maker, array_at, after_array, global_at, global_named, global_of, global, param_at, param_named, param_of, param, params_at, params_from, function_at, function_end, function_of, function_from, globals_from, item_at, item_behind, item_named, item_of, item_from, program_items}
+use Rattle.c_parser.specs.ReadExpressions.{Read, ◌>>=◌, after, is_close_paren, is_close_bracket}
+use Rattle.c_parser.specs.ReadStatements.{with_kind, separated, is_semicolon, is_open_paren, is_close_brace, is_specifier, starts}
+use Rattle.c_parser.specs.ReadItems.{body_from, brace_at, ends_here, after_value, values, length_at, closes_here, array_length, Maker, array_at, after_array, global_at, global_of, global, param_at, param_named, param_of, param, params_at, params_from, function_end, function_of, globals_from, item_at, item_behind, item_of, item_from, program_items}
 use Rattle.c_parser.proofs.Options.{some_is, none_is, clash, bind_is, length-cons}
-use Rattle.c_parser.proofs.Tables.{looseness, head_looseness}
+use Rattle.c_parser.proofs.Tables.{head_looseness}
 use Rattle.c_parser.proofs.Complete.{is_read, begins, Begins}
-use Rattle.c_parser.proofs.CompleteLists.{is_end, end_loose, WholePart, NotEmpty, separated_whole, spelled, specifiers_stop, Named, named_with, named_length, separated_named, specifiers_named, Specified, specified_with, spells_first}
+use Rattle.c_parser.proofs.CompleteLists.{is_end, end_loose, WholePart, separated_whole, spelled, specifiers_stop, Named, named_with, named_length, specifiers_named, Specified, specified_with, spells_first}
 use Rattle.c_parser.proofs.CompleteStatements.{complete_body}
 
 -- initialisers between braces

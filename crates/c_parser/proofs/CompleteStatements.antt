@@ -6,21 +6,20 @@ use Rattle.c_lexer.specs.declared.token.TokenKind.{TokenKind}
 use Rattle.c_lexer.specs.declared.token.TokenKind.TheVariants as kinds
 use Rattle.c_lexer.specs.declared.token.Keyword.TheVariants as words
 use Rattle.c_lexer.specs.declared.token.Punct.TheVariants as signs
-use Rattle.c_tree.specs.Sizes.{expression_depth, statement_depth, local_depth, or_zero, greatest}
+use Rattle.c_tree.specs.Sizes.{expression_depth, statement_depth, or_zero, greatest}
 use Rattle.c_tree.specs.declared.tree.Expr.{Expr}
 use Rattle.c_tree.specs.declared.tree.Local.{Local}
 use Rattle.c_tree.specs.declared.tree.Stmt.{Stmt, Empty, Value, Declare, Block, If, While, Do, For, Break, Continue, Return}
-use Rattle.c_parser.specs.Places.{Place, mark, sign, word}
-use Rattle.c_parser.specs.Operators.{prefix_at}
+use Rattle.c_parser.specs.Places.{Place, sign, word}
 use Rattle.c_parser.specs.Expressions.{comma, Reads}
 use Rattle.c_parser.specs.Statements.{is_open, ReadsMaybe, nothing, just, Declares, ReadsFirst, first_declare, first_value, first_empty, ReadsStatement, ReadsBody, empty, value, block, if_only, if_else, while, do_while, for, break, continue, return, no_more, declare, next}
-use Rattle.c_parser.specs.ReadExpressions.{Read, ◌>>=◌, read, after, is_close_paren}
-use Rattle.c_parser.specs.ReadStatements.{is_semicolon, is_close_brace, is_open_paren, is_while, is_specifier, starts, starts_here, declaration, declare_from, value_from, maybe, maybe_at, clause, clause_at, tested, part, body_at, body, else_at, after_then, if_from, while_from, do_from, for_from, return_from, statement_at, statement}
-use Rattle.c_parser.proofs.Options.{some_is, none_is, clash, bind_is, length-cons}
+use Rattle.c_parser.specs.ReadExpressions.{Read, ◌>>=◌, after, is_close_paren}
+use Rattle.c_parser.specs.ReadStatements.{is_semicolon, is_close_brace, is_while, is_specifier, starts, starts_here, declaration, declare_from, value_from, maybe, maybe_at, clause, clause_at, tested, part, body_at, body, else_at, after_then, if_from, while_from, do_from, for_from, return_from, statement_at, statement}
+use Rattle.c_parser.proofs.Options.{clash, bind_is, length-cons}
 use Rattle.c_parser.proofs.Tables.{head_looseness}
 use Rattle.c_parser.proofs.Complete.{is_read, begins, Begins}
 use Rattle.c_parser.proofs.CompleteLists.{declaration_whole, declares_specified, Specified}
-use Rattle.c_parser.proofs.StatementParts.{depth_empty, depth_value, depth_declare, depth_block, depth_if_only, depth_if_else, depth_while, depth_do, depth_for, depth_break, depth_continue, depth_return, statement_positive, open_if_only, open_if_else, open_while, open_for}
+use Rattle.c_parser.proofs.StatementParts.{depth_value, depth_declare, depth_block, depth_if_only, depth_if_else, depth_while, depth_do, depth_for, depth_return, statement_positive, open_if_only, open_if_else, open_while, open_for}
 
 abbrev pub is_else : TokenKind → Bool
 is_else (kinds.Word words.Else) = true

@@ -1,11 +1,11 @@
 -- The steps of the code's loops over lists and blocks.
-use Rattle.std.proofs.Common.{◌≡◌, ◌≤◌, ◌<◌, ◌+◌, ◌-◌, ◌++◌, ℕ, zero, suc, Bool, true, false, List, [], ◌∷◌, Option, Some, None, refl, sym, ap, ◌∙◌, arith, length, map, max}
+use Rattle.std.proofs.Common.{◌≡◌, ◌≤◌, ◌<◌, ◌-◌, ◌++◌, ℕ, zero, suc, Bool, true, false, List, [], ◌∷◌, Some, None, refl, sym, ap, ◌∙◌, arith, length, max}
 use Rattle.std.proofs.lemmas.List.{append_assoc, append-nil, length-append}
 use Rattle.c_lexer.specs.declared.token.Token.{Token}
 use Rattle.c_lexer.specs.declared.token.TokenKind.{TokenKind}
 use Rattle.c_lexer.specs.declared.token.TokenKind.TheVariants as kinds
 use Rattle.c_lexer.specs.declared.token.Punct.TheVariants as signs
-use Rattle.c_tree.specs.Sizes.{local_depth, statement_depth, greatest}
+use Rattle.c_tree.specs.Sizes.{local_depth}
 use Rattle.c_tree.specs.declared.tree.Ty.{Ty}
 use Rattle.c_tree.specs.declared.tree.Local.{Local}
 use Rattle.c_tree.specs.declared.tree.Stmt.{Stmt, Declare}
@@ -15,7 +15,7 @@ use Rattle.c_parser.specs.ReadExpressions.{Read, ◌>>=◌, after, is_comma_sign
 use Rattle.c_parser.specs.Statements.{ReadsLocal, Declares}
 use Rattle.c_parser.specs.ReadStatements.{specifiers, is_semicolon, more_at, separated, local, declaration, declaration_of, declare_from, part, body, body_at, statement, statement_from, declared, clause, clause_from, is_close_brace, is_specifier}
 use Rattle.c_parser.proofs.Options.{some_is, none_is, clash, bind_is, bind_some, length-cons}
-use Rattle.c_parser.proofs.CompleteLists.{NotEmpty, Named, named_length, local_named_is, Specified, declares_specified}
+use Rattle.c_parser.proofs.CompleteLists.{NotEmpty, named_length, local_named_is, Specified, declares_specified}
 use Rattle.c_parser.proofs.CompleteStatements.{BeginsStatement, begins_statement, body_step, clause_declares}
 use Rattle.c_parser.proofs.SoundLists.{FoundOf, SoundPart, sizes, local_sound, declaration_sound}
 use Rattle.c_parser.proofs.SoundStatements.{FoundStatement, sound}

@@ -1,5 +1,5 @@
 -- What is read is in the grammar of expressions.
-use Rattle.std.proofs.Common.{◌≡◌, ◌≤◌, ◌<◌, ◌+◌, ◌++◌, ℕ, zero, suc, Bool, true, false, List, [], ◌∷◌, map, max, Option, Some, None, refl, sym, ap, ◌∙◌, arith, subst, length}
+use Rattle.std.proofs.Common.{◌≡◌, ◌≤◌, ◌++◌, ℕ, zero, suc, Bool, true, false, List, [], ◌∷◌, map, Option, Some, None, refl, ap, ◌∙◌, arith, subst, length}
 use Rattle.std.specs.Prelude.{if◌then◌else◌, nat_le}
 use Rattle.std.proofs.lemmas.Bool.{leb-true}
 use Rattle.c_lexer.specs.declared.token.Token.{Token}
@@ -8,14 +8,14 @@ use Rattle.c_lexer.specs.declared.token.TokenKind.TheVariants as kinds
 use Rattle.c_lexer.specs.declared.token.Punct.{Punct}
 use Rattle.c_lexer.specs.declared.token.Punct.TheVariants as signs
 use Rattle.c_tree.specs.declared.tree.BinaryOp.{BinaryOp}
-use Rattle.c_tree.specs.declared.tree.Expr.{Expr, Literal, Name, Index, Call, Choose, Assign, Bump, Comma, Paren}
+use Rattle.c_tree.specs.declared.tree.Expr.{Expr, Name, Index, Call, Choose, Assign, Bump, Comma, Paren}
 use Rattle.c_parser.specs.declared.operators.Infix.{Infix}
 use Rattle.c_parser.specs.declared.operators.Prefix.{Prefix}
 use Rattle.c_parser.specs.Places.{Place, mark, sign}
 use Rattle.c_parser.specs.Operators.{infix_of, assignment_of, prefix_of, postfix_of, infix_at, assignment_at, prefix_at, postfix_at, joined, prefixed}
 use Rattle.c_tree.specs.Sizes.{expression_depth as depth, greatest}
 use Rattle.c_parser.specs.Expressions.{Level, comma, assign, cond, binary, postfix, primary, Reads, ReadsAll, comma_assign, comma_both, assign_cond, assign_to, cond_binary, choose, tighter, both, unary_postfix, unary, postfix_primary, bump, literal, name, index, call_none, call, paren, one, more}
-use Rattle.c_parser.specs.ReadExpressions.{Read, Reader, ◌>>=◌, is_unary, kind_of, after, is_close_paren, is_colon, is_close_bracket, arguments, after_argument, next_argument, call_at, named_at, named, primary_at, primary_from, bump_at, bumps, postfix_from, unary_at, unary_from, of_level, turn_at, chain, level, choose_at, after_test, cond_from, assign_at, after_place, assign_from, comma_at, commas, comma_from, layer, read}
+use Rattle.c_parser.specs.ReadExpressions.{Read, Reader, ◌>>=◌, is_unary, kind_of, after, is_close_paren, is_colon, is_close_bracket, arguments, after_argument, next_argument, call_at, named_at, named, primary_at, primary_from, bump_at, bumps, postfix_from, unary_at, unary_from, of_level, turn_at, chain, level, choose_at, after_test, cond_from, assign_at, after_place, assign_from, comma_at, commas, comma_from, read}
 use Rattle.c_parser.proofs.Options.{some_is, none_is, clash, bind_some, guard_some, place_of, token_is, after_mark, sign_is, closes, joins}
 use Rattle.c_parser.proofs.Parts.{depth_literal, depth_name, depth_index, depth_call, depth_paren, depth_bump, depth_prefixed, depth_joined, depth_comma, depth_choose, depth_assign, unary_joined, unary_comma, unary_choose, unary_assign}
 use Rattle.c_parser.proofs.Tables.{of_level_is}

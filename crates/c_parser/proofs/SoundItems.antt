@@ -1,13 +1,12 @@
 -- What is read of items is in the grammar.
-use Rattle.std.proofs.Common.{◌≡◌, ◌≤◌, ◌<◌, ◌+◌, ◌++◌, ℕ, zero, suc, Bool, true, false, List, [], ◌∷◌, map, max, Option, Some, None, refl, sym, ap, ◌∙◌, arith, subst, length}
-use Rattle.std.specs.Prelude.{if◌then◌else◌}
+use Rattle.std.proofs.Common.{◌≡◌, ◌≤◌, ◌++◌, ℕ, zero, suc, Bool, true, false, List, [], ◌∷◌, map, Option, Some, None, refl, sym, ap, ◌∙◌, arith, subst, length}
 use Rattle.std.proofs.lemmas.List.{append_assoc}
 use Rattle.c_lexer.specs.declared.token.Token.{Token}
 use Rattle.c_lexer.specs.declared.token.TokenKind.{TokenKind}
 use Rattle.c_lexer.specs.declared.token.TokenKind.TheVariants as kinds
 use Rattle.c_lexer.specs.declared.token.Keyword.TheVariants as words
 use Rattle.c_lexer.specs.declared.token.Punct.TheVariants as signs
-use Rattle.c_tree.specs.Sizes.{expression_depth, statement_depth, global_depth, item_depth, body_depth, or_zero, greatest}
+use Rattle.c_tree.specs.Sizes.{expression_depth, global_depth, item_depth, body_depth, or_zero, greatest}
 use Rattle.c_tree.specs.declared.tree.Expr.{Expr}
 use Rattle.c_tree.specs.declared.tree.Ty.{Ty}
 use Rattle.c_tree.specs.declared.tree.Stmt.{Stmt}
@@ -25,13 +24,13 @@ use Rattle.c_parser.specs.Lists.Separated.{more as further}
 use Rattle.c_parser.specs.Statements.{ReadsBody}
 use Rattle.c_parser.specs.Items.{ReadsLength, no_length, a_length, LastComma, no_comma, a_comma, ReadsGlobal, scalar, scalar_valued, array, array_valued, first_at, ReadsParam, named, unnamed, ReadsParams, nothing, void, params, all_named, ReadsItem, globals, prototype, function, ReadsItems, end, item}
 use Rattle.c_parser.specs.ReadExpressions.{Read, ◌>>=◌, read, after, is_close_paren, is_close_bracket}
-use Rattle.c_parser.specs.ReadStatements.{specifiers, separated, is_semicolon, is_close_brace, statement, body}
-use Rattle.c_parser.specs.ReadItems.{body_from, is_opening_brace, brace_at, ends_here, next_value, after_value, values, length_at, closes_here, array_length, Maker, array_at, after_array, global_at, global_named, global_of, global_from, global, param_at, param_named, param_of, param, params_at, params_from, function_at, function_end, function_of, function_from, globals_from, item_at, item_behind, item_named, item_of, item_from, program_items}
+use Rattle.c_parser.specs.ReadStatements.{specifiers, separated, is_semicolon, is_close_brace, statement}
+use Rattle.c_parser.specs.ReadItems.{body_from, is_opening_brace, brace_at, ends_here, next_value, after_value, values, length_at, closes_here, array_length, array_at, after_array, global_at, global_named, global_of, global_from, global, param_at, param_named, param, params_at, params_from, function_at, function_end, function_of, function_from, globals_from, item_at, item_behind, item_named, item_of, item_from, program_items}
 use Rattle.c_parser.proofs.Options.{some_is, none_is, bind_some, guard_some, place_of, after_mark, closes, joins}
 use Rattle.c_parser.proofs.Sound.{sound as expression_sound, Found, close_paren_is, close_bracket_is}
 use Rattle.c_parser.proofs.SoundLists.{FoundOf, SoundPart, found_is, semicolon_is, sizes, separated_sound, FoundWords, words_found}
 use Rattle.c_parser.proofs.SoundStatements.{FoundBody, body_sound, sound as statement_sound}
-use Rattle.c_parser.proofs.CompleteLists.{Specified, spells_first}
+use Rattle.c_parser.proofs.CompleteLists.{spells_first}
 use Rattle.c_parser.proofs.CompleteItems.{nothing_of, first_with}
 
 close_brace_is : (kind : TokenKind) → is_close_brace kind ≡ true → kind ≡ kinds.Sign signs.CloseBrace

@@ -1,5 +1,5 @@
 -- What is read of statements is in the grammar.
-use Rattle.std.proofs.Common.{◌≡◌, ◌≤◌, ◌<◌, ◌+◌, ◌++◌, ℕ, zero, suc, Bool, true, false, List, [], ◌∷◌, map, max, Option, Some, None, refl, sym, ap, ◌∙◌, arith, subst, length}
+use Rattle.std.proofs.Common.{◌≡◌, ◌≤◌, ◌++◌, ℕ, zero, suc, Bool, true, false, List, [], ◌∷◌, map, Option, Some, None, refl, sym, ap, ◌∙◌, arith, subst, length}
 use Rattle.std.specs.Prelude.{if◌then◌else◌}
 use Rattle.std.proofs.lemmas.List.{append_assoc}
 use Rattle.c_lexer.specs.declared.token.Token.{Token}
@@ -11,17 +11,17 @@ use Rattle.c_lexer.specs.declared.token.Punct.TheVariants as signs
 use Rattle.c_tree.specs.Sizes.{expression_depth, statement_depth, local_depth, or_zero, greatest}
 use Rattle.c_tree.specs.declared.tree.Expr.{Expr}
 use Rattle.c_tree.specs.declared.tree.Local.{Local}
-use Rattle.c_tree.specs.declared.tree.Stmt.{Stmt, Empty, Value, Declare, Block, If, While, Do, For, Break, Continue, Return}
+use Rattle.c_tree.specs.declared.tree.Stmt.{Stmt, Value, Declare, Block, If, While, Do, For, Break, Continue, Return}
 use Rattle.c_parser.specs.Places.{Place, mark, sign, word}
 use Rattle.c_parser.specs.Expressions.{comma, Reads}
 use Rattle.c_parser.specs.Statements.{is_open, ReadsMaybe, nothing, just, Declares, ReadsFirst, first_declare, first_value, first_empty, ReadsStatement, ReadsBody, empty, value, block, if_only, if_else, while, do_while, for, break, continue, return, no_more, declare, next}
 use Rattle.c_parser.specs.ReadExpressions.{Read, ◌>>=◌, read, after, is_close_paren}
-use Rattle.c_parser.specs.ReadStatements.{is_semicolon, is_open_paren, is_while, is_specifier, starts_here, declaration, declare_from, value_from, maybe, maybe_at, clause, clause_at, tested, part, body_at, body, else_at, after_then, if_from, while_from, do_from, for_from, return_from, statement_at, statement}
+use Rattle.c_parser.specs.ReadStatements.{is_semicolon, is_open_paren, is_while, is_specifier, starts_here, declaration, value_from, maybe, maybe_at, clause, clause_at, tested, part, body_at, body, else_at, after_then, if_from, while_from, do_from, for_from, return_from, statement_at, statement}
 use Rattle.c_parser.proofs.Options.{some_is, none_is, clash, bind_some, place_of, after_mark, closes, joins}
 use Rattle.c_parser.proofs.Sound.{sound as expression_sound, Found, close_paren_is}
-use Rattle.c_parser.proofs.SoundLists.{FoundOf, SoundPart, found_is, choice_some, semicolon_is, sizes, declaration_sound}
-use Rattle.c_parser.proofs.CompleteStatements.{is_else, NoElse}
-use Rattle.c_parser.proofs.StatementParts.{depth_empty, depth_value, depth_declare, depth_block, depth_if_only, depth_if_else, depth_while, depth_do, depth_for, depth_break, depth_continue, depth_return, open_empty, open_value, open_declare, open_block, open_if_only, open_if_else, open_while, open_do, open_for, open_break, open_continue, open_return}
+use Rattle.c_parser.proofs.SoundLists.{FoundOf, SoundPart, found_is, semicolon_is, sizes, declaration_sound}
+use Rattle.c_parser.proofs.CompleteStatements.{NoElse}
+use Rattle.c_parser.proofs.StatementParts.{depth_empty, depth_value, depth_declare, depth_block, depth_if_only, depth_if_else, depth_while, depth_do, depth_for, depth_break, depth_continue, depth_return, open_empty, open_value, open_block, open_if_else, open_while, open_do, open_for, open_break, open_continue, open_return}
 
 -- The tokens begin with a spelling of the statement, and no `else` stands behind it where it is open.
 pub record FoundStatement (n : ℕ) (ts : List Token) (y : Stmt × List Token) : Type 0 where

@@ -1,5 +1,5 @@
 -- The depth of a statement, and whether it is open, by what it is made of.
-use Rattle.std.proofs.Common.{◌≡◌, ◌≤◌, ◌+◌, ℕ, Bool, true, false, List, map, max, Option, Some, None, refl, sym, arith, subst}
+use Rattle.std.proofs.Common.{◌≡◌, ◌≤◌, ◌+◌, ℕ, true, false, List, map, max, Option, Some, None, sym, arith, subst}
 use Rattle.c_tree.specs.Sizes.{expression_depth, statement_depth, statement_depth_step, local_depth, or_zero, greatest}
 use Rattle.c_tree.specs.declared.tree.Expr.{Expr}
 use Rattle.c_tree.specs.declared.tree.Local.{Local}

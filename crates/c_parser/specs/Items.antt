@@ -10,7 +10,6 @@ use Rattle.c_tree.specs.declared.tree.Stmt.{Stmt}
 use Rattle.c_tree.specs.declared.tree.Shape.TheVariants as shapes
 use Rattle.c_tree.specs.declared.tree.GlobalVar.{GlobalVar}
 use Rattle.c_tree.specs.declared.tree.Param.{Param}
-use Rattle.c_tree.specs.declared.tree.Function.{Function}
 use Rattle.c_tree.specs.declared.tree.TopItem.{TopItem}
 use Rattle.c_tree.specs.declared.tree.TopItem.TheVariants as items
 use Rattle.c_tree.specs.declared.tree.Program.{Program}

@@ -16,10 +16,9 @@ use Rattle.c_tree.specs.declared.tree.Param.{Param}
 use Rattle.c_tree.specs.declared.tree.Function.{Function}
 use Rattle.c_tree.specs.declared.tree.TopItem.{TopItem}
 use Rattle.c_tree.specs.declared.tree.TopItem.TheVariants as items
-use Rattle.c_tree.specs.declared.tree.Program.{Program}
 use Rattle.c_parser.specs.declared.specifiers.Specifiers.{Specifiers}
 use Rattle.c_parser.specs.Expressions.{cond}
-use Rattle.c_parser.specs.ReadExpressions.{Read, ◌>>=◌, read, after, kind_of, is_comma_sign, is_close_paren, is_close_bracket}
+use Rattle.c_parser.specs.ReadExpressions.{Read, ◌>>=◌, read, after, is_close_paren, is_close_bracket}
 use Rattle.c_parser.specs.Specifiers.{no_words, is_value, is_local, is_function, type_of}
 use Rattle.c_parser.specs.ReadStatements.{specifiers, separated, is_semicolon, is_close_brace, statement, body}
 use Rattle.c_parser.specs.Items.{first_at, all_named}

@@ -13,7 +13,7 @@ use Rattle.c_parser.specs.declared.operators.Prefix.{Prefix}
 use Rattle.c_parser.specs.declared.specifiers.Specifiers.{Specifiers}
 use Rattle.c_parser.specs.Operators.{prefix_at}
 use Rattle.c_parser.specs.Expressions.{comma, assign}
-use Rattle.c_parser.specs.ReadExpressions.{Read, ◌>>=◌, read, after, kind_of, is_comma_sign, is_close_paren}
+use Rattle.c_parser.specs.ReadExpressions.{Read, ◌>>=◌, read, after, is_comma_sign, is_close_paren}
 use Rattle.c_parser.specs.Specifiers.{no_words, with_word, is_local, type_of}
 
 -- tests of one sign or one word

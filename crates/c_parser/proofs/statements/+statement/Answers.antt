@@ -1,8 +1,8 @@
-use Rattle.std.proofs.Common.{◌≡◌, ◌≤◌, ◌<◌, ◌++◌, ℕ, suc, List, [], ◌∷◌, Some, None, refl, sym, ap, ◌∙◌, arith, length, map}
+use Rattle.std.proofs.Common.{◌≡◌, ◌<◌, ◌++◌, ℕ, suc, [], ◌∷◌, Some, sym, ap, ◌∙◌, arith, length, map}
 use Rattle.c_tree.specs.Sizes.{statement_depth, greatest}
 use Rattle.c_parser.proofs.StatementParts.{depth_if_else}
-use Rattle.c_tree.specs.declared.tree.Stmt.{Stmt, If}
-use Rattle.c_parser.specs.ReadStatements.{statement, body, part, is_specifier}
+use Rattle.c_tree.specs.declared.tree.Stmt.{If}
+use Rattle.c_parser.specs.ReadStatements.{statement, body, part}
 use Rattle.c_parser.proofs.Steps.{fails_via}
 use Rattle.c_parser.proofs.ListSteps.{fronted, fronted_none, body_on, body_fails, body_end, body_empty, part_falls, statement_step, more_deep, pushed, nothing_left}
 use Rattle.c_parser.proofs.statements.+statement.Goals as goal
