@@ -74,9 +74,12 @@ abbrev pub after_array : ℕ → Maker → Option Expr → List Token → Read G
 after_array lim make l [] = Some (make (shapes.Array l) [], [])
 after_array lim make l (t ∷ ts) = array_at lim make l t.kind t ts
 
+abbrev pub array_from : ℕ → Maker → List Token → Read GlobalVar
+array_from lim make ts = array_length lim ts >>= λ x. after_array lim make x.0 x.1
+
 abbrev pub global_at : ℕ → Maker → TokenKind → Token → List Token → Read GlobalVar
 global_at lim make (kinds.Sign signs.Equal) t ts = read lim cond ts >>= λ x. Some (make shapes.Scalar (x.0 ∷ []), x.1)
-global_at lim make (kinds.Sign signs.OpenBracket) t ts = array_length lim ts >>= λ x. after_array lim make x.0 x.1
+global_at lim make (kinds.Sign signs.OpenBracket) t ts = array_from lim make ts
 global_at lim make _ t ts = Some (make shapes.Scalar [], t ∷ ts)
 
 abbrev pub global_named : ℕ → Maker → List Token → Read GlobalVar
@@ -109,11 +112,14 @@ param_of at s = if is_local s.0 then param_named s.0 at s.1 else None
 abbrev pub param : List Token → Read Param
 param ts = param_of (first_at ts) (specifiers no_words ts)
 
--- the parameters, up to the closing parenthesis
+-- the parameters, one at least, up to the closing parenthesis
+abbrev pub listed : List Token → Read (List Param)
+listed ts = separated param (length ts) ts >>= λ x. after is_close_paren x.1 >>= λ rest. Some (x.0, rest)
+
 abbrev pub params_at : TokenKind → Token → List Token → Read (List Param)
 params_at (kinds.Sign signs.CloseParen) t ts = Some ([], ts)
 params_at (kinds.Word words.Void) t ts = after is_close_paren ts >>= λ rest. Some ([], rest)
-params_at _ t ts = separated param (length (t ∷ ts)) (t ∷ ts) >>= λ x. after is_close_paren x.1 >>= λ rest. Some (x.0, rest)
+params_at _ t ts = listed (t ∷ ts)
 
 abbrev pub params_from : List Token → Read (List Param)
 params_from [] = None
@@ -137,11 +143,17 @@ function_end lim make ps (t ∷ ts) = function_at lim make ps t.kind ts
 abbrev pub function_of : Specifiers → ℕ → ℕ → List Param → Option (List Stmt) → Function
 function_of s name at ps body = record { ty = type_of s; name = name; at = at; params = ps; body = body }
 
+abbrev pub function_behind : ℕ → Specifiers → ℕ → ℕ → List Token → Read TopItem
+function_behind lim s name at ts = params_from ts >>= λ x. function_end lim (function_of s name at x.0) x.0 x.1
+
 abbrev pub function_from : ℕ → Specifiers → ℕ → ℕ → List Token → Read TopItem
-function_from lim s name at ts = if is_function s then (params_from ts >>= λ x. function_end lim (function_of s name at x.0) x.0 x.1) else None
+function_from lim s name at ts = if is_function s then function_behind lim s name at ts else None
+
+abbrev pub globals_behind : ℕ → Specifiers → List Token → Read TopItem
+globals_behind lim s ts = separated (global lim (type_of s) s.is_const) (length ts) ts >>= λ x. after is_semicolon x.1 >>= λ rest. Some (items.Globals x.0, rest)
 
 abbrev pub globals_from : ℕ → Specifiers → List Token → Read TopItem
-globals_from lim s ts = if is_value s then (separated (global lim (type_of s) s.is_const) (length ts) ts >>= λ x. after is_semicolon x.1 >>= λ rest. Some (items.Globals x.0, rest)) else None
+globals_from lim s ts = if is_value s then globals_behind lim s ts else None
 
 -- an item whose specifiers have been read: a function where a parenthesis follows its name
 abbrev pub item_at : ℕ → Specifiers → ℕ → Token → TokenKind → Token → List Token → Read TopItem

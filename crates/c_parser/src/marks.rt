@@ -4,6 +4,7 @@ ghost use Rattle.std.specs.Prelude.{◌≡◌};
 ghost use Rattle.c_parser.specs.Gives.{Gives};
 ghost use Rattle.c_parser.specs.ReadExpressions.{after, is_close_paren, is_close_bracket, is_colon, is_comma_sign};
 ghost use Rattle.c_parser.specs.ReadStatements.{is_open_paren, is_semicolon, is_while, is_close_brace, is_specifier, starts};
+ghost use Rattle.c_parser.specs.ReadItems.{is_opening_brace};
 
 use crate::fault::Fault;
 use crate::operators::prefix_sign;
@@ -14,6 +15,13 @@ pub fn is_comma(kind: TokenKind) -> bool
     ensures { result ≡ is_comma_sign kind }
 {
     matches!(kind, TokenKind::Sign(Punct::Comma))
+}
+
+/// Whether it is `(`.
+pub fn is_opening(kind: TokenKind) -> bool
+    ensures { result ≡ is_open_paren kind }
+{
+    matches!(kind, TokenKind::Sign(Punct::OpenParen))
 }
 
 /// Whether it is `)`.
@@ -120,6 +128,32 @@ pub fn after_semicolon<'a>(tokens: &'a [Token]) -> Result<&'a [Token], Fault>
     match tokens.split_first() {
         Some((t, rest)) => match t.kind {
             TokenKind::Sign(Punct::Semicolon) => Ok(rest),
+            _ => Err(Fault::NoProgram { left: tokens.len() }),
+        },
+        None => Err(Fault::NoProgram { left: 0 }),
+    }
+}
+
+/// What stands behind `{`.
+pub fn after_opening_brace<'a>(tokens: &'a [Token]) -> Result<&'a [Token], Fault>
+    ensures { Gives (λ x. x.now) result (after is_opening_brace tokens.now) }
+{
+    match tokens.split_first() {
+        Some((t, rest)) => match t.kind {
+            TokenKind::Sign(Punct::OpenBrace) => Ok(rest),
+            _ => Err(Fault::NoProgram { left: tokens.len() }),
+        },
+        None => Err(Fault::NoProgram { left: 0 }),
+    }
+}
+
+/// What stands behind `}`.
+pub fn after_closing_brace<'a>(tokens: &'a [Token]) -> Result<&'a [Token], Fault>
+    ensures { Gives (λ x. x.now) result (after is_close_brace tokens.now) }
+{
+    match tokens.split_first() {
+        Some((t, rest)) => match t.kind {
+            TokenKind::Sign(Punct::CloseBrace) => Ok(rest),
             _ => Err(Fault::NoProgram { left: tokens.len() }),
         },
         None => Err(Fault::NoProgram { left: 0 }),
