@@ -1,0 +1,17 @@
+pub mod Options
+pub mod Parts
+pub mod Tables
+pub mod Complete
+pub mod Sound
+pub mod Steps
+pub mod StatementParts
+pub mod CompleteLists
+pub mod CompleteStatements
+pub mod SoundLists
+pub mod SoundStatements
+pub mod ListSteps
+pub mod CompleteItems
+pub mod SoundItems
+pub mod Programs
+pub mod ItemSteps
+pub mod Orders
