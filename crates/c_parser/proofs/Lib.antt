@@ -13,3 +13,5 @@ pub mod ListSteps
 pub mod CompleteItems
 pub mod SoundItems
 pub mod Programs
+pub mod NodeCounts
+pub mod StatementCounts
