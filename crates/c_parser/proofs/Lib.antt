@@ -15,3 +15,4 @@ pub mod SoundItems
 pub mod Programs
 pub mod NodeCounts
 pub mod StatementCounts
+pub mod ItemCounts
