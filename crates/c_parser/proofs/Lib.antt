@@ -16,3 +16,4 @@ pub mod Programs
 pub mod NodeCounts
 pub mod StatementCounts
 pub mod ItemCounts
+pub mod Shapes
