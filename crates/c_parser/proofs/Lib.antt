@@ -15,3 +15,7 @@ pub mod SoundItems
 pub mod Programs
 pub mod ItemSteps
 pub mod Orders
+pub mod NodeCounts
+pub mod StatementCounts
+pub mod ItemCounts
+pub mod Shapes
