@@ -1,5 +1,5 @@
 -- Trees of the small form: the function of one, the statements that put out words, and how many these are.
-use Rattle.std.proofs.Common.{◌≡◌, ◌≤◌, ◌<◌, ◌+◌, ℕ, zero, suc, List, [], ◌∷◌, ◌++◌, map, sum, length, get_or, Option, Some, None, MatchOption, refl, sym, ap, ◌∙◌, subst, arith, length-append}
+use Rattle.std.proofs.Common.{◌≡◌, ◌≤◌, ◌<◌, ◌+◌, ◌^◌, ℕ, zero, suc, List, [], ◌∷◌, ◌++◌, map, sum, length, get_or, Option, Some, None, MatchOption, refl, sym, ap, ◌∙◌, subst, arith, length-append}
 use Rattle.std.proofs.lemmas.List.Sums.{sum_by-cons}
 use Rattle.c_tree.specs.declared.tree.Stmt.{Stmt, Value, fold-roll-Stmt}
 use Rattle.c_tree.specs.declared.tree.Stmt.TheOpen.{Stmt-F}
@@ -10,6 +10,7 @@ use Rattle.c_tree.specs.declared.tree.Function.{Function}
 use Rattle.c_tree.specs.declared.tree.TopItem.{TopItem}
 use Rattle.c_tree.specs.declared.tree.TopItem.TheVariants as item
 use Rattle.c_tree.specs.declared.tree.Program.{Program}
+use Rattle.hardcc_core.specs.SmallWords.{AreWords}
 use Rattle.c_tree.specs.Small.{IsOutput, Outputs, IsReturn, SmallProgram}
 use Rattle.c_tree.specs.Sizes.{expression_nodes, statement_nodes, statement_nodes_step, body_nodes, item_nodes, program_nodes}
 
@@ -97,3 +98,8 @@ outputs_few (n ∷ ns) (c ∷ cs) ds z =
 -- a small program has no more words than nodes
 pub few_words : (ns : List ℕ) (last : ℕ) (program : Program) → SmallProgram ns last program → length ns ≤ program_nodes program
 few_words ns last program p = omega (arith, ap (λ is. sum (map item_nodes is)) p.is, outputs_few ns p.outputs (p.end ∷ []) p.puts_out)
+
+-- words and one more
+pub words_and_one : (ns : List ℕ) (n : ℕ) → AreWords ns → n < 2 ^ 32 → AreWords (ns ++ n ∷ [])
+words_and_one [] n words word = (word, tt)
+words_and_one (m ∷ ns) n words word = (words.0, words_and_one ns n words.1 word)

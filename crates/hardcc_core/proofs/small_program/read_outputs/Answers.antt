@@ -2,8 +2,7 @@ use Rattle.std.proofs.Common.{◌≡◌, ◌++◌, ◌∷◌, ◌∙◌, suc, []
 use Rattle.std.proofs.Math.Seq.{take-suc}
 use Rattle.c_tree.specs.declared.tree.Stmt.{Stmt}
 use Rattle.c_tree.specs.Small.{IsOutput}
-use Rattle.hardcc_core.proofs.TokenReadings.{words_and_one}
-use Rattle.hardcc_core.proofs.SmallTrees.{outputs_more, each_output}
+use Rattle.hardcc_core.proofs.SmallTrees.{outputs_more, each_output, words_and_one}
 use Rattle.hardcc_core.proofs.small_program.read_outputs.Goals as goal
 
 pub returns-in-None-clause-none : goal.returns-in-None-clause-none
