@@ -67,7 +67,10 @@ fn refuses_with_the_written_lines(rt: HostRuntime) -> Result<(), Fail> {
     let sources: [(&[u8], &[u8]); 9] = [
         (b"int main(void){return x;}", b"source refused: NotYet\n"),
         (b"", b"source refused: NotYet\n"),
-        (b"int main(void){return 0}", b"source refused: NoProgram at 23\n"),
+        (
+            b"int main(void){return 0}",
+            b"source refused: NoProgram at 23\n",
+        ),
         (
             b"int main(void){while(1) out_word(1); return 0;}",
             b"source refused: NotYet\n",

@@ -1,0 +1,155 @@
+//! Texts, and where they are no program, against a table.
+
+use crate::run_tool;
+use c_lexer::tokens;
+use c_parser::{in_order, one_tree, parse};
+use hard_shelf::{MemoryShelf, MemorySink};
+use std::fmt::Write;
+use std::test::Fail;
+
+// A text, ` => ` and `ok`, or the place of the first token with which no program goes on.
+const TABLE: &str = " => ok
+int main(void){return 0;} => ok
+int main(void){return 0} => NoProgram { at: 23 }
+int f(int) { => NoProgram { at: 11 }
+int f(int); => ok
+int f(int a){} => ok
+int f(void); => ok
+int f(); => ok
+int f(const int a, unsigned b); => ok
+int f(int,); => NoProgram { at: 10 }
+int f(void x); => NoProgram { at: 11 }
+void x; => NoProgram { at: 6 }
+void f(void); => ok
+static const unsigned int x = 3, y[2], z[] = {1, 2,}; => ok
+unsigned static int const x; => ok
+int a[] = {} => NoProgram { at: 11 }
+int a[] = {1 2} => NoProgram { at: 13 }
+int a[2] = 3; => NoProgram { at: 11 }
+int a = {3}; => NoProgram { at: 8 }
+int a = 1, b = 2; => ok
+int a = (1, 2); => ok
+int a = b = 2; => NoProgram { at: 10 }
+int => NoProgram { at: 3 }
+x; => NoProgram { at: 0 }
+int f(void){ a+b=c; } => NoProgram { at: 16 }
+int f(void){ a?b:c=d; } => NoProgram { at: 18 }
+int f(void){ -a=b; 1=2; (a+b)=c; a=b=c; a+=b-=c; } => ok
+int f(void){ a++ ++; ++--a; a++=b; ++a=b; } => ok
+int f(void){ a[1,2]; a(1,2); a(); a[b(c)][d]; } => NoProgram { at: 41 }
+int f(void){ a(1,); } => NoProgram { at: 17 }
+int f(void){ a ? b, c : d ? e : f; } => ok
+int f(void){ a ? b; } => NoProgram { at: 18 }
+int f(void){ a || b && c | d ^ e & f == g < h << i + j * k; } => ok
+int f(void){ !~+-a; } => ok
+int f(void){ 1(2); } => NoProgram { at: 14 }
+int f(void){ a b; } => NoProgram { at: 15 }
+int f(void){ ; {} {;} {int a;} } => ok
+int f(void){ int a, b = 1, c = a = 2; } => ok
+int f(void){ int a = 1, 2; } => NoProgram { at: 24 }
+int f(void){ const a; } => NoProgram { at: 19 }
+int f(void){ const int a; } => ok
+int f(void){ static int a; } => NoProgram { at: 13 }
+int f(void){ int a[2]; } => NoProgram { at: 18 }
+int f(void){ if (a) if (b) c; else d; else e; } => ok
+int f(void){ else a; } => NoProgram { at: 13 }
+int f(void){ if a; } => NoProgram { at: 16 }
+int f(void){ if (a) int b; } => NoProgram { at: 20 }
+int f(void){ while (a) { break; continue; } } => ok
+int f(void){ do a; while (b); } => ok
+int f(void){ do a; while (b) } => NoProgram { at: 29 }
+int f(void){ for (;;) ; for (a;b;c) ; for (int i = 0, j; i; i++) ; } => ok
+int f(void){ for (a;b) ; } => NoProgram { at: 21 }
+int f(void){ for (int a) ; } => NoProgram { at: 23 }
+int f(void){ return; return a, b; } => ok
+int f(void){ break } => NoProgram { at: 19 }
+int f(void){ goto a; } => NoProgram { at: 13 }
+int f(void) => NoProgram { at: 11 }
+int f(void){  => NoProgram { at: 12 }
+int f(void){ } ; => NoProgram { at: 15 }
+int int a; => NoProgram { at: 4 }
+int f(void){ (a; } => NoProgram { at: 15 }
+int f(void){ ) } => NoProgram { at: 13 }
+int main(void){out_word(1); return 0;} => ok
+int f(void){ signed unsigned a; } => NoProgram { at: 20 }
+int f(void){ void a; } => NoProgram { at: 13 }
+signed unsigned x; => NoProgram { at: 7 }
+int a[2][3]; => NoProgram { at: 8 }
+int f(void){ if (a) ; else if (b) ; else ; } => ok
+int f(void){ x = ; } => NoProgram { at: 17 }
+int f(void){ a ? : c; } => NoProgram { at: 17 }
+int f(int a, int); => ok
+int f(int a, int) {} => NoProgram { at: 18 }
+int a, f(void); => NoProgram { at: 8 }
+unsigned f(void){return 0;} int a; => ok";
+
+// Whether a text is a program, as the table has it.
+fn program_told(rt: &(impl AllocGlobal + std::process::Abort), text: &str) -> Result<String, Fail> {
+    let bytes = text.as_bytes();
+    assert!(rt; bytes.len() < 100, "{text}");
+    let list = tokens(rt.alloc(), bytes)?;
+    assert!(rt; in_order(&list), "{text}");
+    let mut told = String::new(rt.alloc());
+    match parse(rt.alloc(), &list) {
+        Ok(_) => told.push_str("ok")?,
+        Err(error) => write!(told, "{error:?}")?,
+    }
+    Ok(told)
+}
+
+#[test]
+fn programs_are_those_of_the_table(rt: HostRuntime) -> Result<(), Fail> {
+    let mut rows = 0u32;
+    for line in TABLE.lines() {
+        let Some((text, want)) = line.split_once(" => ") else {
+            panic!(rt; "a row without an arrow: {line}");
+        };
+        let told = program_told(&rt, text)?;
+        assert_eq!(rt; told.as_str(), want, "of {text}");
+        rows = rows.saturating_add(1);
+    }
+    assert_eq!(rt; rows, 74);
+    one_tree();
+    Ok(())
+}
+
+// `int main(void){return 0;}` with so many pairs of parentheses around the 0.
+fn nested(rt: &impl AllocGlobal, pairs: usize) -> Result<Vec<u8>, Fail> {
+    let mut text = Vec::from_slice(rt.alloc(), b"int main(void){return ")?;
+    for _ in 0..pairs {
+        text.push(b'(')?;
+    }
+    text.push(b'0')?;
+    for _ in 0..pairs {
+        text.push(b')')?;
+    }
+    text.extend_from_slice(b";}")?;
+    Ok(text)
+}
+
+#[test]
+fn depth_is_256_at_most(rt: HostRuntime) -> Result<(), Fail> {
+    let mut words = Vec::new(rt.alloc());
+    for word in ["compile", "a.c", "a.img"] {
+        words.push(String::from_str(rt.alloc(), word)?)?;
+    }
+    let cases: [(usize, u8, &[u8]); 3] = [
+        (253, 0, b"compiled\n"),
+        (254, 3, b"source refused: NoProgram at "),
+        (5_000, 3, b"source refused: NoProgram at "),
+    ];
+    for (pairs, status, begins) in cases {
+        let mut shelf = MemoryShelf::new(rt.alloc());
+        assert!(rt; shelf.hold("a.c", &nested(&rt, pairs)?).is_ok());
+        let Ok(mut sink) = MemorySink::new(rt.alloc(), 100) else {
+            panic!(rt; "no room");
+        };
+        assert_eq!(rt;
+            run_tool(rt.alloc(), &words, &mut shelf, &mut sink),
+            status,
+            "at {pairs}"
+        );
+        assert!(rt; sink.written().starts_with(begins), "at {pairs}");
+    }
+    Ok(())
+}
