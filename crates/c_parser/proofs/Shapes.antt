@@ -1,5 +1,5 @@
 -- Each tree of the grammar is shaped: no variable is void, declarations stand where they may, and parameters have names.
-use Rattle.std.proofs.Common.{◌≡◌, ℕ, Bool, true, false, List, [], ◌∷◌, map, Option, Some, None, refl, sym, ap, ◌∙◌}
+use Rattle.std.proofs.Common.{◌≡◌, Bool, true, false, List, [], ◌∷◌, map, Option, Some, None, refl, sym, ap, ◌∙◌}
 use Rattle.std.specs.Prelude.{not, ◌&&◌, ◌||◌, if◌then◌else◌}
 use Rattle.c_lexer.specs.declared.token.Token.{Token}
 use Rattle.c_tree.specs.Shaped.{each, is_value_type, Form, plain, is_substatement, is_shaped_local, form, is_shaped_statement, is_shaped_global, is_shaped_param, has_name, is_shaped_body, is_shaped_item, Shaped}
@@ -18,8 +18,7 @@ use Rattle.c_parser.specs.Specifiers.{is_value, is_local, type_of}
 use Rattle.c_parser.specs.Lists.{Separated, one}
 use Rattle.c_parser.specs.Lists.Separated.{more as further}
 use Rattle.c_parser.specs.Statements.{ReadsLocal, bare, valued, Declares, declares, ReadsFirst, first_declare, first_value, first_empty, ReadsStatement, ReadsBody, empty, value, block, if_only, if_else, while, do_while, for, break, continue, return, no_more, declare, next}
-use Rattle.c_parser.specs.Items.{ReadsGlobal, scalar, scalar_valued, array, array_valued, ReadsParam, named, unnamed, ReadsParams, nothing, void, params, all_named, ReadsItem, globals, prototype, function, ReadsItems, end, item, Tree}
-use Rattle.c_parser.specs.Items.{has_name as names}
+use Rattle.c_parser.specs.Items.{ReadsGlobal, scalar, scalar_valued, array, array_valued, ReadsParam, named, unnamed, ReadsParams, nothing, void, params, ReadsItem, globals, prototype, function, ReadsItems, end, item, Tree}
 use Rattle.c_parser.proofs.Options.{clash}
 
 -- ---- tests that hold together
@@ -134,18 +133,10 @@ params_shaped _ _ nothing = refl
 params_shaped _ _ (void p) = refl
 params_shaped _ _ (params {ts} {ps} d) = separated_each ReadsParam is_shaped_param param_shaped ts ps d
 
-name_given : (name : Option ℕ) → names name ≡ true → has_name name ≡ true
-name_given None h = h
-name_given (Some n) h = refl
-
-names_given : (ps : List Param) → all_named ps ≡ true → each (λ (p : Param). has_name p.name) ps ≡ true
-names_given [] h = refl
-names_given (p ∷ ps) h = and_true (has_name p.name) (each (λ (q : Param). has_name q.name) ps) (name_given p.name (and_left (names p.name) (all_named ps) h)) (names_given ps (and_right (names p.name) (all_named ps) h))
-
 item_shaped : (ts : List Token) (i : TopItem) → ReadsItem ts i → is_shaped_item i ≡ true
 item_shaped _ _ (globals {b} {s} {gs} p d i ds) = separated_each (ReadsGlobal (type_of s) s.is_const) is_shaped_global (global_shaped (type_of s) s.is_const (value_type s i)) b gs ds
 item_shaped _ _ (prototype {b} {ps} n p q r t d i ds) = and_true (each is_shaped_param ps) true (params_shaped b ps ds) refl
-item_shaped _ _ (function {b} {c} {ps} {body} n p q r t u d i ds f g) = and_true (each is_shaped_param ps) (is_shaped_body ps (Some body)) (params_shaped b ps ds) (and_true (each (λ (q : Param). has_name q.name) ps) (each is_shaped_statement body) (names_given ps f) (body_shaped c body g))
+item_shaped _ _ (function {b} {c} {ps} {body} n p q r t u d i ds f g) = and_true (each is_shaped_param ps) (is_shaped_body ps (Some body)) (params_shaped b ps ds) (and_true (each (λ (q : Param). has_name q.name) ps) (each is_shaped_statement body) f (body_shaped c body g))
 
 items_shaped : (ts : List Token) (is : List TopItem) → ReadsItems ts is → each is_shaped_item is ≡ true
 items_shaped _ _ end = refl
