@@ -46,6 +46,13 @@ const EXIT: u16 = 17;
 ///
 /// A source is accepted exactly where its tokens are a program of the small form: `int main(void)`
 /// alone, with statements `out_word(N);` and last `return N;`, N a constant in parentheses or not.
+///
+/// # Errors
+///
+/// The first of these that holds: `TooLong`, where the source has more bytes; `Lex`, the first fault
+/// of its tokens (ISO/IEC 9899, 6.4); `Parse`, where they are no program of depth at most 256 (6.5 to
+/// 6.9); `NotYet`, where that program is not of the small form. `OutOfMemory` comes only where memory
+/// was refused, in place of any other answer.
 pub fn compile(alloc: Global, source: &[u8]) -> Result<Image, Refusal>
     ensures ok { IfOk result (λ image. Compiles source.now (fields_of image)) }
     ensures accepted { IfOk result (λ image. IsAccepted source.now) }
