@@ -188,3 +188,19 @@ fn long_sources_and_narrow_sinks(rt: HostRuntime) -> Result<(), Fail> {
     assert_eq!(rt; sink.written(), b"16\n".as_slice());
     Ok(())
 }
+
+#[test]
+fn long_inputs(rt: HostRuntime) -> Result<(), Fail> {
+    let mut shelf = MemoryShelf::new(rt.alloc());
+    assert!(rt; shelf.hold("a.c", FIRST).is_ok());
+    check(&rt, &mut shelf, "compile a.c a.img", 0, b"compiled\n")?;
+    let long = vec![in rt.alloc(); b' '; 16_777_217]?;
+    assert!(rt; shelf.hold("in", &long).is_ok());
+    check(
+        &rt,
+        &mut shelf,
+        "run a.img in 8",
+        6,
+        b"input refused: too large\n",
+    )
+}
