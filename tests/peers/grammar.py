@@ -7,11 +7,9 @@ read too, since the subset is a part of C. Programs that pycparser alone reads a
 
 Build the program first: rt run in crates/hardcc. Usage: grammar.py [PROGRAMS [SEED]]
 """
-import os
 import random
 import subprocess
 import sys
-import tempfile
 
 try:
     from pycparser.c_parser import CParser
@@ -23,7 +21,8 @@ try:
 except ImportError:
     CParser = None
 
-PROGRAM = os.path.abspath(os.path.join(os.path.dirname(os.path.abspath(__file__)), "../../crates/hardcc/out/hardcc"))
+from peer import PROGRAM, main
+
 NAMES = ["a", "b", "f", "main", "in_word", "out_word", "_t"]
 LITERALS = ["0", "7", "0x1F", "017", "3u", "0XaU", "2147483647", "4294967295u"]
 BINARY = ["*", "/", "%", "+", "-", "<<", ">>", "<", ">", "<=", ">=", "==", "!=", "&", "^", "|", "&&", "||"]
@@ -230,23 +229,5 @@ def compare(count, seed):
     return wrong > 0
 
 
-
-def main(words):
-    if CParser is None:
-        print("skipped: pycparser is not installed")
-        return 0
-    if not os.access(PROGRAM, os.X_OK):
-        print(f"skipped: {PROGRAM} is not built")
-        return 0
-    count = int(words[0]) if words else 1000
-    seed = int(words[1]) if len(words) > 1 else 1
-    here = os.getcwd()
-    with tempfile.TemporaryDirectory() as folder:
-        os.chdir(folder)
-        is_wrong = compare(count, seed)
-        os.chdir(here)
-    return int(is_wrong)
-
-
 if __name__ == "__main__":
-    sys.exit(main(sys.argv[1:]))
+    main(compare, "" if CParser else "pycparser is not installed")

@@ -8,12 +8,9 @@ is not drawn; an overflow ends both runs.
 
 Build the program first: rt run in crates/hardcc. Usage: runs.py [IMAGES [SEED]]
 """
-import os
 import random
 import struct
 import subprocess
-import sys
-import tempfile
 
 try:
     import unicorn
@@ -21,7 +18,8 @@ try:
 except ImportError:
     unicorn = None
 
-PROGRAM = os.path.abspath(os.path.join(os.path.dirname(os.path.abspath(__file__)), "../../crates/hardcc/out/hardcc"))
+from peer import PROGRAM, main
+
 TEXT, MEMORY, MEMORY_WORDS = 0x00400000, 0x10010000, 128
 # Registers with a use of their own: a counter of turns, the base of memory, and an address or a divisor.
 COUNTER, BASE, SPARE = 25, 26, 27
@@ -200,22 +198,5 @@ def compare(count, seed):
     return wrong > 0
 
 
-def main(words):
-    if unicorn is None:
-        print("skipped: unicorn is not installed (Debian: python3-unicorn, for /usr/bin/python3)")
-        return 0
-    if not os.access(PROGRAM, os.X_OK):
-        print(f"skipped: {PROGRAM} is not built")
-        return 0
-    count = int(words[0]) if words else 1000
-    seed = int(words[1]) if len(words) > 1 else 1
-    here = os.getcwd()
-    with tempfile.TemporaryDirectory() as folder:
-        os.chdir(folder)
-        is_wrong = compare(count, seed)
-        os.chdir(here)
-    return int(is_wrong)
-
-
 if __name__ == "__main__":
-    sys.exit(main(sys.argv[1:]))
+    main(compare, "" if unicorn else "unicorn is not installed (Debian: python3-unicorn, for /usr/bin/python3)")
