@@ -65,6 +65,3 @@ fn add_piece(
 pub fn one_result()
     ensures { HasOneResult }
 {}
-
-#[cfg(test)]
-mod tests;

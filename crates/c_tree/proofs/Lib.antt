@@ -1,6 +1,6 @@
 pub mod Greatest
+pub mod Firsts
 pub mod Views
-pub mod Small
 pub mod Related
 pub mod More
 pub mod Patterns
@@ -9,3 +9,5 @@ pub mod NativeRun
 pub mod Examples
 pub mod Output
 pub mod Levels
+pub mod Recursive
+pub mod Active

@@ -1,8 +1,9 @@
 pub mod Operators
 pub mod Run
+pub mod Graph
 pub mod Meaning
 pub mod Sizes
+pub mod Costs
 pub mod Shaped
-pub mod Small
 pub mod Laws
 pub mod Examples

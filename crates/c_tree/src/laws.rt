@@ -1,17 +1,11 @@
 //! Laws of the meaning of C programs.
 
 ghost use Rattle.c_tree.specs.Examples.{Examples};
-ghost use Rattle.c_tree.specs.Laws.{LevelsAgree, MoreFuel, OutputIsAdded};
-ghost use Rattle.c_tree.specs.Small.{SmallRuns};
+ghost use Rattle.c_tree.specs.Laws.{CallsReturn, LevelsAgree, MoreFuel, OutputIsAdded, RecursiveIsChain};
 
 /// Each of the examples runs as it says: a few programs for every rule of the language.
 pub fn examples_hold()
     ensures { Examples }
-{}
-
-/// The smallest programs put out their numbers in order and exit with the last.
-pub fn small_runs()
-    ensures { SmallRuns }
 {}
 
 /// More fuel never changes an end that stands, and only adds to the output of a run that is going.
@@ -27,4 +21,14 @@ pub fn levels_agree()
 /// What was put out before changes nothing but stays in front of the output.
 pub fn output_is_added()
     ensures { OutputIsAdded }
+{}
+
+/// As many calls of recursive functions are active after each part of a program as before it.
+pub fn calls_return()
+    ensures { CallsReturn }
+{}
+
+/// A function is recursive exactly where a chain of calls leads from it back to it.
+pub fn recursive_is_chain()
+    ensures { RecursiveIsChain }
 {}

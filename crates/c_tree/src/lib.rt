@@ -2,16 +2,21 @@
 //! each input, as far as some fuel lasts.
 #![tactic(auto)]
 
+mod costs;
 mod laws;
+mod operators;
 mod run;
 mod sizes;
-#[cfg(test)]
-mod tests;
 mod tree;
 
-pub use laws::{examples_hold, levels_agree, more_fuel, output_is_added, small_runs};
-pub use run::{EvalEnd, Flow, Value};
+pub use costs::{block_cost, weight};
+pub use laws::{
+    calls_return, examples_hold, levels_agree, more_fuel, output_is_added, recursive_is_chain,
+};
+pub use operators::{binary_type, operate, operate_unary, unary_type};
+pub use run::{EvalEnd, Flow, Place, Value};
 pub use sizes::{depth, nodes};
 pub use tree::{
-    BinaryOp, Expr, Function, GlobalVar, Local, Param, Program, Shape, Stmt, TopItem, Ty, UnaryOp,
+    BinaryOp, Clause, Expr, Function, GlobalVar, Label, Local, Param, Program, Shape, Stmt,
+    TopItem, Ty, UnaryOp,
 };

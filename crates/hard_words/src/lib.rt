@@ -11,15 +11,13 @@
 mod arithmetic;
 mod list;
 mod same;
-#[cfg(test)]
-mod tests;
 
 pub use arithmetic::{
     add, divide, divide_signed, flip_bit, less, less_signed, mul, product, product_signed,
     shift_left, shift_right, shift_right_signed, sign16, sub,
 };
 pub use list::Words;
-pub use same::{same_reflexive, same_transitive};
+pub use same::{same_reflexive, same_renamed, same_transitive, same_where_met};
 use std::alloc::{AllocError, AllocFailed};
 
 /// There was no memory. Each call that takes memory answers this, or a variant of this name, where none is left.
@@ -54,4 +52,19 @@ pub enum ChangeKind {
     Flip { reg: u8, bit: u8 },
     /// Just after a step that was of a branch or a jump, the word behind its delay slot is the one at this address.
     Divert { to: u32 },
+    /// Just before the step, this word is put in a place.
+    Set { place: SetPlace, word: u32 },
+}
+
+/// A place of the machine's state that holds a word.
+#[derive(Clone, Copy, Debug, PartialEq, Eq)]
+pub enum SetPlace {
+    /// A general register, 0 to 31; register 0 stays 0.
+    Reg(u8),
+    /// HI.
+    Hi,
+    /// LO.
+    Lo,
+    /// The word of memory at an address; an address that is none of a word of memory changes nothing.
+    Memory(u32),
 }

@@ -7,7 +7,7 @@ use Rattle.c_tree.specs.declared.tree.Expr.TheFolds.{the_lemmas}
 use Rattle.c_tree.specs.declared.tree.Stmt.{Stmt, Value, Return}
 use Rattle.c_tree.specs.declared.tree.TopItem.TheVariants as item
 use Rattle.c_tree.specs.declared.tree.Program.{Program}
-use Rattle.c_tree.specs.Small.{SmallProgram, Outputs, IsOutput, IsReturn, literal}
+use Rattle.hardcc_core.specs.Small.{SmallProgram, Outputs, IsOutput, IsReturn, literal}
 use Rattle.mips_isa.specs.Image.{ImageFields}
 use Rattle.elf_image.specs.Bounds.{Fits, is_in_text}
 use Rattle.elf_image.specs.Layout.{data_at, sections_at, sizes_of}

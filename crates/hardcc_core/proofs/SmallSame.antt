@@ -11,8 +11,8 @@ use Rattle.mips_isa.specs.Image.{boot_state}
 use Rattle.mips_isa.proofs.Runs.{stays, grows}
 use Rattle.c_tree.specs.declared.tree.Program.{Program}
 use Rattle.c_tree.specs.Meaning.{CRan, c_run}
-use Rattle.c_tree.specs.Small.{SmallProgram}
-use Rattle.c_tree.proofs.Small.{small}
+use Rattle.hardcc_core.specs.Small.{SmallProgram}
+use Rattle.hardcc_core.proofs.Small.{small}
 use Rattle.hardcc_core.specs.SmallWords.{AreWords, small_words, small_fields}
 use Rattle.hardcc_core.specs.Same.{image_seen, program_seen, c_seen, Same, SmallSame}
 use Rattle.hardcc_core.proofs.Outs.{puts_out}

@@ -11,8 +11,8 @@ use Rattle.c_tree.specs.declared.tree.TopItem.{TopItem}
 use Rattle.c_tree.specs.declared.tree.TopItem.TheVariants as item
 use Rattle.c_tree.specs.declared.tree.Program.{Program}
 use Rattle.hardcc_core.specs.SmallWords.{AreWords}
-use Rattle.c_tree.specs.Small.{IsOutput, Outputs, IsReturn, SmallProgram}
-use Rattle.c_tree.specs.Sizes.{expression_nodes, statement_nodes, statement_nodes_step, body_nodes, item_nodes, program_nodes}
+use Rattle.hardcc_core.specs.Small.{IsOutput, Outputs, IsReturn, SmallProgram}
+use Rattle.c_tree.specs.Sizes.{expression_nodes, statement_nodes, statement_nodes_step, clause_nodes_step, body_nodes, item_nodes, program_nodes}
 
 -- ---- clauses on an `Option`
 
@@ -85,7 +85,7 @@ no_return program at outputs end is none numbers last p =
 
 -- an expression statement is one more than its expression
 nodes-Value : (e : Expr) → statement_nodes (Value e) ≡ 1 + expression_nodes e
-nodes-Value e = ap statement_nodes (sym (rolls-Value e)) ∙ fold-roll-Stmt ℕ statement_nodes_step (Stmt-F.Value e)
+nodes-Value e = ap statement_nodes (sym (rolls-Value e)) ∙ fold-roll-Stmt ℕ ℕ statement_nodes_step clause_nodes_step (Stmt-F.Value e)
 
 -- a statement that puts out a word is one node at least
 outputs_few : (ns : List ℕ) (cs ds : List Stmt) → Outputs ns cs → length ns ≤ body_nodes (cs ++ ds)

@@ -8,7 +8,7 @@ use Rattle.c_parser.specs.declared.program.ParseError.TheVariants as parser
 use Rattle.c_parser.specs.Items.{Tree}
 use Rattle.c_tree.specs.declared.tree.Program.{Program}
 use Rattle.c_tree.specs.Sizes.{program_depth, program_nodes}
-use Rattle.c_tree.specs.Small.{SmallProgram}
+use Rattle.hardcc_core.specs.Small.{SmallProgram}
 use Rattle.mips_isa.specs.Image.{ImageFields}
 use Rattle.hardcc_core.specs.declared.compiler.Refusal.{Refusal}
 use Rattle.hardcc_core.specs.declared.compiler.Refusal.TheVariants.{TooLong, Lex, Parse, NotYet, OutOfMemory}

@@ -4,7 +4,7 @@ use Rattle.c_lexer.specs.declared.token.Token.{Token}
 use Rattle.c_lexer.specs.Tokens.{Tokens}
 use Rattle.c_tree.specs.declared.tree.Program.{Program}
 use Rattle.c_tree.specs.Sizes.{program_depth}
-use Rattle.c_tree.specs.Small.{SmallProgram}
+use Rattle.hardcc_core.specs.Small.{SmallProgram}
 use Rattle.c_parser.specs.declared.program.ParseError.{ParseError}
 use Rattle.c_parser.specs.declared.program.ParseError.TheVariants as parser
 use Rattle.c_parser.specs.declared.program.ParseError.TheVariants.{NoProgram}

@@ -1,3 +1,4 @@
+pub mod Small
 pub mod SmallWords
 pub mod Same
 pub mod Commands

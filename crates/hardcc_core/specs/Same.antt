@@ -9,7 +9,7 @@ use Rattle.c_tree.specs.declared.tree.Program.{Program}
 use Rattle.c_tree.specs.declared.run.EvalEnd.{EvalEnd}
 use Rattle.c_tree.specs.declared.run.EvalEnd.TheVariants as program
 use Rattle.c_tree.specs.Meaning.{CRan, c_run}
-use Rattle.c_tree.specs.Small.{SmallProgram}
+use Rattle.hardcc_core.specs.Small.{SmallProgram}
 use Rattle.hardcc_core.specs.SmallWords.{AreWords, small_words, small_fields}
 
 -- what is seen of a run of the machine

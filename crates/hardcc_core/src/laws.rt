@@ -1,7 +1,13 @@
 //! Laws of the definitions.
 
+ghost use Rattle.hardcc_core.specs.Small.{SmallRuns};
 ghost use Rattle.hardcc_core.specs.SmallWords.{PutsOut};
 ghost use Rattle.hardcc_core.specs.Same.{SmallSame};
+
+/// The smallest programs put out their numbers in order and exit with the last.
+pub fn small_runs()
+    ensures { SmallRuns }
+{}
 
 /// The run of the image of a small text puts out each number in order, and ends with the last.
 pub fn straight_line()

@@ -15,5 +15,5 @@ mod tool;
 
 pub use compiler::{Refusal, compile};
 pub use failure::Failure;
-pub use laws::{small_same, straight_line};
+pub use laws::{small_runs, small_same, straight_line};
 pub use tool::run_tool;

@@ -4,7 +4,7 @@ ghost use Rattle.std.specs.Prelude.{◌≡◌, ◌≤◌, ◌++◌, ◌∷◌, [
 ghost use Rattle.c_tree.specs.declared.tree.Ty.TheVariants.{Int};
 ghost use Rattle.c_tree.specs.declared.tree.Stmt.{Stmt};
 ghost use Rattle.c_tree.specs.declared.tree.TopItem.TheVariants as item;
-ghost use Rattle.c_tree.specs.Small.{literal, IsOutput, Outputs, IsReturn, SmallProgram};
+ghost use Rattle.hardcc_core.specs.Small.{literal, IsOutput, Outputs, IsReturn, SmallProgram};
 ghost use Rattle.c_tree.specs.Sizes.{program_nodes};
 ghost use Rattle.hardcc_core.specs.SmallWords.{AreWords};
 

@@ -11,14 +11,14 @@ mod laws;
 mod masks;
 mod rows;
 mod table;
-#[cfg(test)]
-mod tests;
 
 pub use instr::{Act, End, Instr};
 pub use laws::{
     act_asks, act_beside, act_puts, act_reaches, act_twins, act_ways, clean_behind, divert_splits,
-    end_stays, flip_splits, going_jumps, output_grows, run_begins, run_joins, same_act,
-    same_before,
+    end_stays, flip_is_set, going_jumps, output_grows, replace_splits, run_begins, run_joins,
+    same_act, same_before,
 };
-pub use masks::{is_jump, is_product, reads, reads_register, writes};
+pub use masks::{
+    is_jump, is_product, reads, reads_pair, reads_register, writes, writes_pair, writes_register,
+};
 pub use table::{decode, decodes_encoded, encode, encodes_decoded, in_range};

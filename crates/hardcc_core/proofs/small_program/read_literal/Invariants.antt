@@ -1,5 +1,5 @@
 use Rattle.std.proofs.Common.{◌≡◌}
-use Rattle.c_tree.specs.Small.{literal}
+use Rattle.hardcc_core.specs.Small.{literal}
 use Rattle.hardcc_core.proofs.small_program.read_literal.Given as goal
 
 abbrev pub invariant-loop-inner : goal.invariant-loop-inner

@@ -1,7 +1,7 @@
 use Rattle.std.proofs.Common.{◌≡◌, ◌++◌, ◌∷◌, ◌∙◌, suc, [], take, sym, ap, subst, add-one}
 use Rattle.std.proofs.Math.Seq.{take-suc}
 use Rattle.c_tree.specs.declared.tree.Stmt.{Stmt}
-use Rattle.c_tree.specs.Small.{IsOutput}
+use Rattle.hardcc_core.specs.Small.{IsOutput}
 use Rattle.hardcc_core.proofs.SmallTrees.{outputs_more, each_output, words_and_one}
 use Rattle.hardcc_core.proofs.small_program.read_outputs.Goals as goal
 

@@ -1,5 +1,5 @@
 use Rattle.std.proofs.Common.{take}
-use Rattle.c_tree.specs.Small.{Outputs}
+use Rattle.hardcc_core.specs.Small.{Outputs}
 use Rattle.hardcc_core.specs.SmallWords.{AreWords}
 use Rattle.hardcc_core.proofs.small_program.read_outputs.Given as goal
 

@@ -1,5 +1,5 @@
 use Rattle.std.proofs.Common.{rules}
-use Rattle.c_tree.specs.Small.{SmallProgram}
+use Rattle.hardcc_core.specs.Small.{SmallProgram}
 use Rattle.hardcc_core.proofs.SmallTrees.{no_return, few_words}
 use Rattle.hardcc_core.proofs.small_program.read_small_program.Goals as goal
 
