@@ -1,5 +1,3 @@
 //! Tests that cross crates.
 
 mod commands;
-mod program_table;
-mod token_table;

@@ -1,9 +1,7 @@
 //! Texts, and where they are no program, against a table.
 
-use crate::run_tool;
 use c_lexer::tokens;
 use c_parser::{in_order, one_tree, parse};
-use hard_shelf::{MemoryShelf, MemorySink};
 use std::fmt::Write;
 use std::test::Fail;
 
@@ -81,7 +79,32 @@ int f(void){ a ? : c; } => NoProgram { at: 17 }
 int f(int a, int); => ok
 int f(int a, int) {} => NoProgram { at: 18 }
 int a, f(void); => NoProgram { at: 8 }
-unsigned f(void){return 0;} int a; => ok";
+unsigned f(void){return 0;} int a; => ok
+int f(void){ switch(a){} } => ok
+int f(void){ switch(a,b){case 1: ; break;} } => ok
+int f(void){ switch(a){case 1: case 2: ; default: break;} } => ok
+int f(void){ switch(a){default: ; case 1: ;} } => ok
+int f(void){ switch(a){default: ; default: ;} } => ok
+int f(void){ switch(a){case 1:} } => ok
+int f(void){ switch(a){case 1: {int b;} } } => ok
+int f(void){ switch(a){case b?c:d: ;} } => ok
+int f(void){ switch(a){case 1: switch(c){case 1: ;}} } => ok
+int f(void){ if (a) switch(b){case 1: ;} else ; } => ok
+int f(void){ while (a) switch(b){case 1: continue;} } => ok
+int f(void){ switch(a){;} } => NoProgram { at: 23 }
+int f(void){ switch(a){case 1: int b;} } => NoProgram { at: 31 }
+int f(void){ switch a {} } => NoProgram { at: 20 }
+int f(void){ switch(a) ; } => NoProgram { at: 23 }
+int f(void){ switch(){} } => NoProgram { at: 20 }
+int f(void){ switch(a){case: ;} } => NoProgram { at: 27 }
+int f(void){ switch(a){case 1 ;} } => NoProgram { at: 30 }
+int f(void){ switch(a){case 1, 2: ;} } => NoProgram { at: 29 }
+int f(void){ switch(a){default 1: ;} } => NoProgram { at: 31 }
+int f(void){ switch(a){case 1: else ;} } => NoProgram { at: 31 }
+int f(void){ switch(a){case 1: ; => NoProgram { at: 32 }
+int f(void){ case 1: ; } => NoProgram { at: 13 }
+int f(void){ default: ; } => NoProgram { at: 13 }
+int switch; => NoProgram { at: 4 }";
 
 // Whether a text is a program, as the table has it.
 fn program_told(rt: &(impl AllocGlobal + std::process::Abort), text: &str) -> Result<String, Fail> {
@@ -108,7 +131,7 @@ fn programs_are_those_of_the_table(rt: HostRuntime) -> Result<(), Fail> {
         assert_eq!(rt; told.as_str(), want, "of {text}");
         rows = rows.saturating_add(1);
     }
-    assert_eq!(rt; rows, 74);
+    assert_eq!(rt; rows, 99);
     one_tree();
     Ok(())
 }
@@ -127,29 +150,19 @@ fn nested(rt: &impl AllocGlobal, pairs: usize) -> Result<Vec<u8>, Fail> {
     Ok(text)
 }
 
+// Whether a `return` of 0 in so many pairs of parentheses is a program.
+fn is_program(rt: &(impl AllocGlobal + std::process::Abort), pairs: usize) -> Result<bool, Fail> {
+    let text = nested(rt, pairs)?;
+    assert!(rt; text.len() < 100_000);
+    let list = tokens(rt.alloc(), &text)?;
+    assert!(rt; in_order(&list));
+    Ok(parse(rt.alloc(), &list).is_ok())
+}
+
 #[test]
 fn depth_is_256_at_most(rt: HostRuntime) -> Result<(), Fail> {
-    let mut words = Vec::new(rt.alloc());
-    for word in ["compile", "a.c", "a.img"] {
-        words.push(String::from_str(rt.alloc(), word)?)?;
-    }
-    let cases: [(usize, u8, &[u8]); 3] = [
-        (253, 0, b"compiled\n"),
-        (254, 3, b"source refused: NoProgram at "),
-        (5_000, 3, b"source refused: NoProgram at "),
-    ];
-    for (pairs, status, begins) in cases {
-        let mut shelf = MemoryShelf::new(rt.alloc());
-        assert!(rt; shelf.hold("a.c", &nested(&rt, pairs)?).is_ok());
-        let Ok(mut sink) = MemorySink::new(rt.alloc(), 100) else {
-            panic!(rt; "no room");
-        };
-        assert_eq!(rt;
-            run_tool(rt.alloc(), &words, &mut shelf, &mut sink),
-            status,
-            "at {pairs}"
-        );
-        assert!(rt; sink.written().starts_with(begins), "at {pairs}");
-    }
+    assert!(rt; is_program(&rt, 253)?);
+    assert!(rt; !is_program(&rt, 254)?);
+    assert!(rt; !is_program(&rt, 5_000)?);
     Ok(())
 }
