@@ -1,0 +1,9 @@
+pub mod Example
+pub mod Tests
+pub mod Windows
+pub mod Positions
+pub mod Deciding
+pub mod Counting
+pub mod Calling
+pub mod LiveLines
+pub mod ValidLines

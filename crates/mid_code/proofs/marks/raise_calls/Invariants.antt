@@ -1,0 +1,7 @@
+use Rattle.std.proofs.Common.{take}
+use Rattle.std.specs.List.{list_any}
+use Rattle.mid_code.specs.Tested.{is_it, callee, AreRaised}
+use Rattle.mid_code.proofs.marks.raise_calls.Given as goal
+
+abbrev pub invariant-loop-block : goal.invariant-loop-block
+invariant-loop-block l = AreRaised (λ x. list_any (λ y. is_it (callee y.end) x) (take l.block-index l.blocks)) l.low l.initial.marks l.marks
