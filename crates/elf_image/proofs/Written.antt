@@ -9,10 +9,21 @@ use Rattle.byteorder.specs.Numbers.{big_number-reads_back}
 use Rattle.mips_isa.specs.Image.{ImageFields}
 use Rattle.elf_image.specs.declared.layout.Sizes.{Sizes}
 use Rattle.elf_image.specs.declared.layout.TheConstants.{HEADER}
-use Rattle.elf_image.specs.Layout.{AreWords, sizes_of, data_at, windows_at, aliases_at, names_at, sections_at, ident, kinds, places, counts, text_segment, data_segment, no_section, text_section, data_section, windows_section, aliases_section, names_section, names, half, word, pair, header, segments, sections, zeros, front, back, image_bytes}
+use Rattle.std.proofs.lemmas.List.Elements.{All-nil, All-cons}
+use Rattle.hard_words.specs.Words.{AreWords}
+use Rattle.elf_image.specs.Layout.{sizes_of, data_at, windows_at, aliases_at, names_at, sections_at, ident, kinds, places, counts, text_segment, data_segment, no_section, text_section, data_section, windows_section, aliases_section, names_section, names, half, word, pair, header, segments, sections, zeros, front, back, image_bytes}
 use Rattle.elf_image.specs.Bounds.{Bounds, SizesFit, Fits, is_in_text, is_window, is_alias, is_after, all_ascending}
 use Rattle.elf_image.specs.Held.{number_at, has, has_fields, flat, IsImage}
 use Rattle.elf_image.proofs.Has.{and_left, and_right, has_more, has_none}
+
+-- numbers of 32 bits, one by one
+abbrev EachWord : List ℕ → Type 0
+EachWord [] = Unit {0}
+EachWord (n ∷ ns) = (n < 2 ^ 32) × EachWord ns
+
+each_word : (ns : List ℕ) → AreWords ns → EachWord ns
+each_word [] h = tt
+each_word (n ∷ ns) h = (h 0 0 (omega arith), each_word ns (λ k d within. h (suc k) d (omega arith)))
 
 -- From an offset on, a file is this list.
 pub record At (whole : List ℕ) (n : ℕ) (list : List ℕ) : Type 0 where
@@ -46,7 +57,7 @@ after_word : (at n : ℕ) → at + length (word n) ≡ at + 4
 after_word at n = ap (λ (k : ℕ). at + k) (length_word n)
 
 -- the words at an offset
-words_here : (whole : List ℕ) (ns : List ℕ) (rest : List ℕ) (at : ℕ) → At whole at (flat_map word ns ++ rest) → AreWords ns → IsTrue (has 4 ns at whole)
+words_here : (whole : List ℕ) (ns : List ℕ) (rest : List ℕ) (at : ℕ) → At whole at (flat_map word ns ++ rest) → EachWord ns → IsTrue (has 4 ns at whole)
 words_here whole [] rest at a h = has_none 4 at whole
 words_here whole (n ∷ ns) rest at a h =
     let b : At whole at (word n ++ (flat_map word ns ++ rest)) = record { before = a.before; long = a.long; parts = ap (λ (l : List ℕ). a.before ++ l) (sym (append_assoc (word n) (flat_map word ns) rest)) ∙ a.parts } in
@@ -108,7 +119,7 @@ window_fits words p h e =
 alias_fits : (words : ℕ) (p : ℕ × ℕ) → words ≤ 66060288 → is_alias words p ≡ true → (p.0 < 2 ^ 32) × (p.1 < 2 ^ 32)
 alias_fits words p h e = (in_text_fits words p.0 h (and_left (is_in_text words p.0) (is_in_text words p.1) e), in_text_fits words p.1 h (and_right (is_in_text words p.0) (is_in_text words p.1) e))
 
-pairs_fit : (test : ℕ × ℕ → Bool) → ((p : ℕ × ℕ) → test p ≡ true → (p.0 < 2 ^ 32) × (p.1 < 2 ^ 32)) → (last : Option (ℕ × ℕ)) (ps : List (ℕ × ℕ)) → all_ascending test last ps ≡ true → AreWords (flat ps)
+pairs_fit : (test : ℕ × ℕ → Bool) → ((p : ℕ × ℕ) → test p ≡ true → (p.0 < 2 ^ 32) × (p.1 < 2 ^ 32)) → (last : Option (ℕ × ℕ)) (ps : List (ℕ × ℕ)) → all_ascending test last ps ≡ true → EachWord (flat ps)
 pairs_fit test fits last [] h = tt
 pairs_fit test fits last (p ∷ ps) h =
     let here : (is_after last p && test p) ≡ true = and_left (is_after last p && test p) (all_ascending test (Some p) ps) h in
@@ -116,35 +127,35 @@ pairs_fit test fits last (p ∷ ps) h =
     (f.0, (f.1, pairs_fit test fits (Some p) ps (and_right (is_after last p && test p) (all_ascending test (Some p) ps) h)))
 
 -- the numbers of the tables have 32 bits
-text_segment_fits : (s : Sizes) → SizesFit s → sections_at s + 240 ≤ 3221225472 → AreWords (text_segment s)
+text_segment_fits : (s : Sizes) → SizesFit s → sections_at s + 240 ≤ 3221225472 → EachWord (text_segment s)
 unfolding text_segment
 text_segment_fits s f h = (omega arith, (omega arith, (omega arith, (omega arith, (omega arith, (omega arith, (omega arith, (omega arith, tt))))))))
 
-data_segment_fits : (s : Sizes) → SizesFit s → sections_at s + 240 ≤ 3221225472 → AreWords (data_segment s)
+data_segment_fits : (s : Sizes) → SizesFit s → sections_at s + 240 ≤ 3221225472 → EachWord (data_segment s)
 unfolding data_segment
 data_segment_fits s f h = (omega arith, (omega arith, (omega arith, (omega arith, (omega arith, (omega arith, (omega arith, (omega arith, tt))))))))
 
-no_section_fits : AreWords no_section
+no_section_fits : EachWord no_section
 unfolding no_section
 no_section_fits = (omega arith, (omega arith, (omega arith, (omega arith, (omega arith, (omega arith, (omega arith, (omega arith, (omega arith, (omega arith, tt))))))))))
 
-text_section_fits : (s : Sizes) → SizesFit s → sections_at s + 240 ≤ 3221225472 → AreWords (text_section s)
+text_section_fits : (s : Sizes) → SizesFit s → sections_at s + 240 ≤ 3221225472 → EachWord (text_section s)
 unfolding text_section
 text_section_fits s f h = (omega arith, (omega arith, (omega arith, (omega arith, (omega arith, (omega arith, (omega arith, (omega arith, (omega arith, (omega arith, tt))))))))))
 
-data_section_fits : (s : Sizes) → SizesFit s → sections_at s + 240 ≤ 3221225472 → AreWords (data_section s)
+data_section_fits : (s : Sizes) → SizesFit s → sections_at s + 240 ≤ 3221225472 → EachWord (data_section s)
 unfolding data_section
 data_section_fits s f h = (omega arith, (omega arith, (omega arith, (omega arith, (omega arith, (omega arith, (omega arith, (omega arith, (omega arith, (omega arith, tt))))))))))
 
-windows_section_fits : (s : Sizes) → SizesFit s → sections_at s + 240 ≤ 3221225472 → AreWords (windows_section s)
+windows_section_fits : (s : Sizes) → SizesFit s → sections_at s + 240 ≤ 3221225472 → EachWord (windows_section s)
 unfolding windows_section
 windows_section_fits s f h = (omega arith, (omega arith, (omega arith, (omega arith, (omega arith, (omega arith, (omega arith, (omega arith, (omega arith, (omega arith, tt))))))))))
 
-aliases_section_fits : (s : Sizes) → SizesFit s → sections_at s + 240 ≤ 3221225472 → AreWords (aliases_section s)
+aliases_section_fits : (s : Sizes) → SizesFit s → sections_at s + 240 ≤ 3221225472 → EachWord (aliases_section s)
 unfolding aliases_section
 aliases_section_fits s f h = (omega arith, (omega arith, (omega arith, (omega arith, (omega arith, (omega arith, (omega arith, (omega arith, (omega arith, (omega arith, tt))))))))))
 
-names_section_fits : (s : Sizes) → SizesFit s → sections_at s + 240 ≤ 3221225472 → AreWords (names_section s)
+names_section_fits : (s : Sizes) → SizesFit s → sections_at s + 240 ≤ 3221225472 → EachWord (names_section s)
 unfolding names_section
 names_section_fits s f h = (omega arith, (omega arith, (omega arith, (omega arith, (omega arith, (omega arith, (omega arith, (omega arith, (omega arith, (omega arith, tt))))))))))
 
@@ -232,7 +243,7 @@ step : (n k m : ℕ) (x : List ℕ) → length x ≡ k → n + k ≡ m → n + l
 step n k m x e f = ap (λ (j : ℕ). n + j) e ∙ f
 
 -- the pairs at an offset
-pairs_here : (whole : List ℕ) (ps : List (ℕ × ℕ)) (rest : List ℕ) (at : ℕ) → At whole at (flat_map pair ps ++ rest) → AreWords (flat ps) → IsTrue (has 4 (flat ps) at whole)
+pairs_here : (whole : List ℕ) (ps : List (ℕ × ℕ)) (rest : List ℕ) (at : ℕ) → At whole at (flat_map pair ps ++ rest) → EachWord (flat ps) → IsTrue (has 4 (flat ps) at whole)
 pairs_here whole ps rest at a h =
     words_here whole (flat ps) rest at (subst (λ (l : List ℕ). At whole at (l ++ rest)) (pairs_as_words ps) a) h
 
@@ -281,8 +292,8 @@ image_written i f ht hi =
     let z : SizesFit s = b.sizes in
     let w : sections_at s + 240 ≤ 3221225472 = f.whole in
     let reach : sections_at s < 2 ^ 32 = omega (arith, w) in
-    let windows_fit : AreWords (flat i.windows) = pairs_fit (is_window (length i.text)) (λ p e. window_fits (length i.text) p z.text e) None i.windows b.windows in
-    let aliases_fit : AreWords (flat i.aliases) = pairs_fit (is_alias (length i.text)) (λ p e. alias_fits (length i.text) p z.text e) None i.aliases b.aliases in
+    let windows_fit : EachWord (flat i.windows) = pairs_fit (is_window (length i.text)) (λ p e. window_fits (length i.text) p z.text e) None i.windows b.windows in
+    let aliases_fit : EachWord (flat i.aliases) = pairs_fit (is_alias (length i.text)) (λ p e. alias_fits (length i.text) p z.text e) None i.aliases b.aliases in
     record {
       bounds = b;
       tables = record {
@@ -302,13 +313,13 @@ image_written i f ht hi =
         whole = ends whole (sections_at s + 240) a16;
       };
       entry = rw (rows i) (header_entry i r1 (in_text_fits (length i.text) i.entry z.text b.entry));
-      text = words_here whole i.text r5 4096 a4 ht;
-      initial = words_here whole i.initial r7 (data_at s) a6 hi;
+      text = words_here whole i.text r5 4096 a4 (each_word i.text ht);
+      initial = words_here whole i.initial r7 (data_at s) a6 (each_word i.initial hi);
       windows = pairs_here whole i.windows r8 (windows_at s) a7 windows_fit;
       aliases = pairs_here whole i.aliases r9 (aliases_at s) a8 aliases_fit;
     }
 
 -- a list whose numbers have 32 bits
 pub are_words : (list : List ℕ) → ((i : ℕ) → get_or list i 0 < 2 ^ 32) → AreWords list
-are_words [] h = tt
-are_words (n ∷ ns) h = (h 0, are_words ns (λ i. h (suc i)))
+are_words [] h = All-nil (λ w. w < 2 ^ 32)
+are_words (n ∷ ns) h = All-cons (λ w. w < 2 ^ 32) n ns (h 0) (are_words ns (λ i. h (suc i)))

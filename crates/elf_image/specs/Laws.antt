@@ -1,7 +1,8 @@
 -- What holds of all files and images.
 use Rattle.std.specs.Prelude.{ℕ, ◌≡◌, List}
 use Rattle.mips_isa.specs.Image.{ImageFields}
-use Rattle.elf_image.specs.Layout.{AreWords, image_bytes}
+use Rattle.hard_words.specs.Words.{AreWords}
+use Rattle.elf_image.specs.Layout.{image_bytes}
 use Rattle.elf_image.specs.Bounds.{Fits}
 use Rattle.elf_image.specs.Held.{IsImage}
 

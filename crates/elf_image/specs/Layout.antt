@@ -1,6 +1,6 @@
 -- The layout of a file: its parts, where each begins, and their bytes.
 -- The headers are those of the ELF chapters of the System V ABI, 32-bit class, high byte first.
-use Rattle.std.specs.Prelude.{ℕ, ◌+◌, ◌-◌, ◌*◌, ◌/◌, ◌^◌, ◌<◌, List, [], ◌∷◌, ◌++◌, length, replicate}
+use Rattle.std.specs.Prelude.{ℕ, ◌+◌, ◌-◌, ◌*◌, ◌/◌, List, [], ◌∷◌, ◌++◌, length, replicate}
 use Rattle.std.specs.Int.{w16, w32, to_be_bytes}
 use Rattle.std.specs.List.{flat_map}
 use Rattle.mips_isa.specs.Image.{ImageFields}
@@ -127,8 +127,3 @@ back i = flat_map word i.initial ++ flat_map pair i.windows ++ flat_map pair i.a
 -- the bytes of a file that holds the fields
 abbrev pub image_bytes : ImageFields → List ℕ
 image_bytes i = front i ++ back i
-
--- numbers of 32 bits
-abbrev pub AreWords : List ℕ → Type 0
-AreWords [] = Unit {0}
-AreWords (n ∷ ns) = (n < 2 ^ 32) × AreWords ns

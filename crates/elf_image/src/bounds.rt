@@ -4,6 +4,7 @@ ghost use Rattle.elf_image.specs.Bounds.{Fits, SizesFit, is_after, is_in_text, i
 ghost use Rattle.elf_image.specs.Layout.{fields_of, sizes_of, sections_at};
 
 use crate::Image;
+use crate::limits::{LONGEST_FILE, MOST_MEMORY, MOST_TEXT, TEXT_START};
 
 /// Whether a file can hold the image: its fields are in their bounds, and the file has at most 3,221,225,472 bytes.
 pub fn fits(image: &Image) -> bool
@@ -25,14 +26,19 @@ fn sizes_fit(image: &Image) -> bool
     let memory = image.memory_words as usize;
     let windows = image.windows.len();
     let aliases = image.aliases.len();
-    if text < 1 || text > 66_060_288 || memory < 1 || memory > 4_194_304 || initial > memory {
+    if text < 1
+        || text > MOST_TEXT as usize
+        || memory < 1
+        || memory > MOST_MEMORY as usize
+        || initial > memory
+    {
         return false;
     }
     if windows > 402_653_184 || aliases > 402_653_184 {
         return false;
     }
     let data_at = (4096 + 4 * text + 4095) / 4096 * 4096;
-    data_at + 4 * initial + 8 * windows + 8 * aliases + 52 + 240 <= 3_221_225_472
+    data_at + 4 * initial + 8 * windows + 8 * aliases + 52 + 240 <= LONGEST_FILE as usize
 }
 
 /// Whether an address is that of a word of a text of so many words.
@@ -40,7 +46,8 @@ pub(crate) fn is_in_text(words: usize, address: u32) -> bool
     requires { words ≤ 66060288 }
     ensures { result ≡ is_in_text words address }
 {
-    address % 4 == 0 && (0x0040_0000 <= address && (address as usize) < 0x0040_0000 + 4 * words)
+    address % 4 == 0
+        && (TEXT_START <= address && (address as usize) < TEXT_START as usize + 4 * words)
 }
 
 /// Whether an address and a register make a window of a text of so many words.

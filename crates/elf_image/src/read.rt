@@ -58,12 +58,13 @@ pub enum ImageError {
 ///
 /// # Errors
 ///
-/// The first of the checks that fails says what is refused; only where none fails, and there was no memory, is it
-/// `OutOfMemory`. Where the bytes hold an image, nothing else is refused.
+/// The first of the checks that fails says what is refused, whatever the memory: the checks take none. Only where none
+/// fails, and there was no memory for the image, is it `OutOfMemory`.
 pub fn read_image(alloc: Global, bytes: &[u8]) -> Result<Image, ImageError>
     ensures ok { IfOk result (λ i. IsImage bytes.now (fields_of i)) }
     ensures refused { (e : ImageError) → IsErrOf result e → (e ≡ OutOfMemory → ⊥) → (f : ImageFields) → IsImage bytes.now f → ⊥ }
     ensures first { (e : ImageError) → IsErrOf result e → (e ≡ OutOfMemory → ⊥) → refusal bytes.now ≡ Some e }
+    ensures refuses { (e : ImageError) → refusal bytes.now ≡ Some e → IsErrOf result e }
 {
     match refusal(bytes) {
         Some(fault) => Err(fault),

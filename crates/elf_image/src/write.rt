@@ -3,10 +3,12 @@ ghost use Rattle.std.specs.Prelude.{◌≡◌, ◌≤◌, ◌<◌, ◌+◌, ◌-
 ghost use Rattle.std.specs.List.{flat_map};
 ghost use Rattle.elf_image.specs.Bounds.{Fits, SizesFit};
 ghost use Rattle.elf_image.specs.Held.{IsImage};
-ghost use Rattle.elf_image.specs.Layout.{AreWords, fields_of, sizes_of, half, word, pair, ident, zeros, front, back, header, segments, names, sections, image_bytes, data_at, sections_at};
+ghost use Rattle.hard_words.specs.Words.{AreWords};
+ghost use Rattle.elf_image.specs.Layout.{fields_of, sizes_of, half, word, pair, ident, zeros, front, back, header, segments, names, sections, image_bytes, data_at, sections_at};
 
 use crate::Image;
 use crate::layout::{Sizes, aliases_at, data_at, names_at, sections_at, windows_at};
+use crate::limits::{MEMORY_START, TEXT_START};
 use byteorder::{BigEndian, ByteOrder};
 use hard_words::OutOfMemory;
 use std::alloc::{AllocError, Global};
@@ -102,13 +104,19 @@ fn put_segments(out: &mut Vec<u8>, sizes: Sizes) -> Result<(), AllocError>
     let initial = 4 * sizes.initial;
     let memory = 4 * sizes.memory_words;
     let data = data_at(sizes);
+    put_words(out, &[1, 4096, TEXT_START, TEXT_START, text, text, 5, 4096])?;
     put_words(
         out,
-        &[1, 4096, 0x0040_0000, 0x0040_0000, text, text, 5, 4096],
-    )?;
-    put_words(
-        out,
-        &[1, data, 0x1001_0000, 0x1001_0000, initial, memory, 6, 4096],
+        &[
+            1,
+            data,
+            MEMORY_START,
+            MEMORY_START,
+            initial,
+            memory,
+            6,
+            4096,
+        ],
     )
 }
 
@@ -124,10 +132,10 @@ fn put_sections(out: &mut Vec<u8>, sizes: Sizes) -> Result<(), AllocError>
     let windows = 8 * sizes.windows;
     let aliases = 8 * sizes.aliases;
     put_words(out, &[0, 0, 0, 0, 0, 0, 0, 0, 0, 0])?;
-    put_words(out, &[1, 1, 6, 0x0040_0000, 4096, text, 0, 0, 4, 0])?;
+    put_words(out, &[1, 1, 6, TEXT_START, 4096, text, 0, 0, 4, 0])?;
     put_words(
         out,
-        &[7, 1, 3, 0x1001_0000, data_at(sizes), initial, 0, 0, 8, 0],
+        &[7, 1, 3, MEMORY_START, data_at(sizes), initial, 0, 0, 8, 0],
     )?;
     put_words(out, &[13, 1, 0, 0, windows_at(sizes), windows, 0, 0, 4, 8])?;
     put_words(out, &[27, 1, 0, 0, aliases_at(sizes), aliases, 0, 0, 4, 8])?;

@@ -3,6 +3,7 @@ use Rattle.std.proofs.Common.{◌≡◌, ℕ, suc, ◌+◌, ◌≤◌, arith, ap
 use Rattle.std.proofs.lemmas.Bool.{cases_lt}
 use Rattle.std.proofs.lemmas.List.{take_all, take-append-le}
 
+-- a beginning of a text was appended
 abbrev pub Part : List ℕ → List ℕ → List ℕ → Type 0
 Part old new text = (n : ℕ) × (new ≡ old ++ take n text)
 

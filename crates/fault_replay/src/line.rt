@@ -10,10 +10,10 @@ use hard_lines::print_word;
 use itoa::Buffer;
 use mips_machine::End;
 
-// Room for each line: the longest have 29 bytes.
-pub(crate) type Line = ArrayVec<u8, 64>;
+/// Room for each line of the tool: the longest have 83 bytes.
+pub type Line = ArrayVec<u8, 128>;
 
-// The line of a word that was put out.
+/// The line of a word that was put out.
 #[tactic(auto, unfolding(crate::specs::Show::word_line))]
 pub(crate) fn word_line(word: u32) -> Line
     ensures { result.items ≡ word_line word }
@@ -24,7 +24,7 @@ pub(crate) fn word_line(word: u32) -> Line
     line
 }
 
-// The line of how a run stands.
+/// The line of how a run stands.
 #[tactic(auto, unfolding(crate::specs::Show::end_line))]
 pub(crate) fn end_line(end: Option<End>) -> Line
     ensures { result.items ≡ end_line end }
@@ -63,10 +63,9 @@ fn exit_line(word: u32) -> Line
 fn trap_line(number: u32) -> Line
     ensures { result.items ≡ line (codes "trap " ++ decimal number) }
 {
-    let mut buffer = Buffer::new();
     let mut line = ArrayVec::new();
     put(&mut line, b"trap ");
-    put(&mut line, buffer.format(number).as_bytes());
+    put_number(&mut line, number as u64);
     line.push(b'\n');
     line
 }
@@ -110,8 +109,9 @@ fn check_name(code: u32) -> &'static [u8]
     if code == 1 { b"eddi" } else { b"cfcss" }
 }
 
-fn put(line: &mut Line, bytes: &[u8])
-    requires { length line.old.items + length bytes.now ≤ 64 }
+/// Adds bytes to a line; together they have at most 128.
+pub fn put(line: &mut Line, bytes: &[u8])
+    requires { length line.old.items + length bytes.now ≤ 128 }
     ensures { line.new.items ≡ line.old.items ++ bytes.now }
 {
     for b in bytes {
@@ -119,8 +119,18 @@ fn put(line: &mut Line, bytes: &[u8])
     }
 }
 
+/// Adds a number in decimal digits, at most 20, to a line of at most 108 bytes.
+pub fn put_number(line: &mut Line, number: u64)
+    requires { length line.old.items + 20 ≤ 128 }
+    ensures text { line.new.items ≡ line.old.items ++ decimal number }
+    ensures fits { length line.new.items ≤ length line.old.items + 20 }
+{
+    let mut buffer = Buffer::new();
+    put(line, buffer.format(number).as_bytes());
+}
+
 fn put_word(line: &mut Line, word: u32)
-    requires { length line.old.items + 11 ≤ 64 }
+    requires { length line.old.items + 11 ≤ 128 }
     ensures text { line.new.items ≡ line.old.items ++ signed_decimal (signed word) }
     ensures fits { length line.new.items ≤ length line.old.items + 11 }
 {
@@ -129,9 +139,10 @@ fn put_word(line: &mut Line, word: u32)
     put(line, &text[..length]);
 }
 
+/// Adds an address, `0x` and eight small hexadecimal digits, to a line of at most 118 bytes.
 #[tactic(auto, unfolding(crate::specs::Show::address))]
-fn put_address(line: &mut Line, at: u32)
-    requires { length line.old.items + 10 ≤ 64 }
+pub fn put_address(line: &mut Line, at: u32)
+    requires { length line.old.items + 10 ≤ 128 }
     ensures text { line.new.items ≡ line.old.items ++ address at }
     ensures fits { length line.new.items ≡ length line.old.items + 10 }
 {

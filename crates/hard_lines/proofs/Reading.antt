@@ -109,7 +109,7 @@ refuse all rest words rest2 old now e s r f =
     subst (λ (l : List Placed). IsRefused l old e) (sym whole) (refused_behind r.done (words ++ rest2) old now e r.took (refused_before words rest2 now e f))
 
 -- the first part of a list that is cut, and the parts of what follows, if anything
-split_step : (p : ℕ → Bool) (xs : List ℕ) →
+pub split_step : (p : ℕ → Bool) (xs : List ℕ) →
     (slice_split p xs ≡ take (position_or_len p xs) xs ∷ slice_split p (drop (position_or_len p xs + 1) xs))
     ⊎ ((slice_split p xs ≡ take (position_or_len p xs) xs ∷ []) × (drop (position_or_len p xs + 1) xs ≡ []))
 split_step p xs =

@@ -110,8 +110,8 @@ fn piece_end(text: &[u8]) -> usize
     text.len()
 }
 
-// What follows the byte at a place, if anything.
-fn behind(text: &[u8], at: usize) -> &[u8]
+/// What follows the byte at a place, if anything.
+pub(crate) fn behind(text: &[u8], at: usize) -> &[u8]
     ensures { result.now ≡ drop (at + 1) text.now }
 {
     if at < text.len() {

@@ -5,21 +5,18 @@ ghost use Rattle.hard_lines.specs.Numbers.{is_digit, are_digits, digits_value, u
 
 /// The number of a word of a command line: 1 to 20 decimal digits, leading zeros among them, and
 /// nothing else, with a value of at most `most`. `None` for any other text.
-///
-/// `most` is below 18446744073709551615, the greatest `u64`.
 pub fn number_up_to(text: &[u8], most: u64) -> Option<u64>
-    requires { most < 2 ^ 64 - 1 }
     ensures { result ≡ number_up_to most text.now }
 {
     let value = digits_value(text);
-    if text.len() <= 20 && are_digits(text) && value <= most {
-        Some(value)
+    if text.len() <= 20 && are_digits(text) && value <= most as u128 {
+        Some(value as u64)
     } else {
         None
     }
 }
 
-// The word of 32 bits that a piece of text stands for, if it is a number in range.
+/// The word of 32 bits that a piece of text stands for, if it is a number in range.
 pub(crate) fn value_of(piece: &[u8]) -> Option<u32>
     ensures { result ≡ value_of piece.now }
 {
@@ -52,8 +49,9 @@ fn negative_value(digits: &[u8]) -> Option<u32>
     }
 }
 
+/// One decimal digit or more, and nothing else.
 #[tactic(auto, using(std::proofs::lemmas::List::Folds::list_all_more, std::proofs::lemmas::List::Folds::list_all_at))]
-fn are_digits(bytes: &[u8]) -> bool
+pub(crate) fn are_digits(bytes: &[u8]) -> bool
     ensures { result ≡ are_digits bytes.now }
 {
     if bytes.is_empty() {
@@ -73,10 +71,10 @@ fn is_digit(b: u8) -> bool
     48 <= b && b <= 57
 }
 
-// The number that digits stand for, or the greatest number where it is above.
+/// The number that digits stand for, or the greatest number where it is above.
 #[tactic(auto, using(crate::proofs::Digits::digits_more))]
-fn digits_value(digits: &[u8]) -> u64
-    ensures { result ≡ min (digits_value digits.now) (2 ^ 64 - 1) }
+pub(crate) fn digits_value(digits: &[u8]) -> u128
+    ensures { result ≡ min (digits_value digits.now) (2 ^ 128 - 1) }
 {
     let mut value = 0;
     for b in digits {
@@ -85,9 +83,9 @@ fn digits_value(digits: &[u8]) -> u64
     value
 }
 
-fn with_digit(value: u64, b: u8) -> u64
-    ensures { result ≡ min (value * 10 + (b - 48)) (2 ^ 64 - 1) }
+fn with_digit(value: u128, b: u8) -> u128
+    ensures { result ≡ min (value * 10 + (b - 48)) (2 ^ 128 - 1) }
 {
     let digit = b.saturating_sub(48);
-    value.saturating_mul(10).saturating_add(digit as u64)
+    value.saturating_mul(10).saturating_add(digit as u128)
 }

@@ -57,6 +57,3 @@ pub struct Machine {
     ghost load_fits: { last_load ≤ 31 },
     ghost quiet_fits: { quiet ≤ 2 },
 }
-
-#[cfg(test)]
-mod tests;

@@ -10,6 +10,7 @@ use super::numbers::{has_bytes, has_words, pair_at, word_at};
 use super::segments::segment_sizes;
 use crate::bounds::{is_after, is_alias, is_window};
 use crate::layout::{Sizes, aliases_at, data_at, names_at, windows_at};
+use crate::limits::{MEMORY_START, TEXT_START};
 
 /// The sizes that the segments and sections 3 and 4 tell.
 pub(crate) fn sizes_told(bytes: &[u8]) -> Sizes
@@ -46,14 +47,14 @@ pub(crate) fn fixed_fault(bytes: &[u8]) -> Option<ImageError>
     if !has_words(
         bytes,
         at + 40,
-        &[1, 1, 6, 0x0040_0000, 4096, text, 0, 0, 4, 0],
+        &[1, 1, 6, TEXT_START, 4096, text, 0, 0, 4, 0],
     ) {
         return Some(ImageError::BadSection { index: 1 });
     }
     if !has_words(
         bytes,
         at + 80,
-        &[7, 1, 3, 0x1001_0000, data_at(sizes), initial, 0, 0, 8, 0],
+        &[7, 1, 3, MEMORY_START, data_at(sizes), initial, 0, 0, 8, 0],
     ) {
         return Some(ImageError::BadSection { index: 2 });
     }

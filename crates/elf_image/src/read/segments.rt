@@ -7,6 +7,7 @@ use super::ImageError;
 use super::numbers::{has_words, word_at};
 use crate::bounds::is_in_text;
 use crate::layout::{Sizes, data_at, windows_at};
+use crate::limits::{MEMORY_START, MOST_MEMORY, MOST_TEXT, TEXT_START};
 
 /// The first fault of the segments and the entry.
 #[tactic(auto, unfolding(crate::specs::Refusal::segment_checks))]
@@ -59,17 +60,8 @@ fn text_segment_holds(bytes: &[u8]) -> bool
     has_words(
         bytes,
         52,
-        &[
-            1,
-            4096,
-            0x0040_0000,
-            0x0040_0000,
-            4 * text,
-            4 * text,
-            5,
-            4096,
-        ],
-    ) && (1 <= text && text <= 66_060_288)
+        &[1, 4096, TEXT_START, TEXT_START, 4 * text, 4 * text, 5, 4096],
+    ) && (1 <= text && text <= MOST_TEXT)
 }
 
 /// Whether segment 1 is right for the numbers of words that it tells, which are in their bounds.
@@ -88,15 +80,15 @@ fn data_segment_holds(bytes: &[u8]) -> bool
         &[
             1,
             data_at(sizes),
-            0x1001_0000,
-            0x1001_0000,
+            MEMORY_START,
+            MEMORY_START,
             initial,
             memory,
             6,
             4096,
         ],
     ) && (1 <= sizes.memory_words
-        && (sizes.memory_words <= 4_194_304 && sizes.initial <= sizes.memory_words))
+        && (sizes.memory_words <= MOST_MEMORY && sizes.initial <= sizes.memory_words))
 }
 
 /// The first fault of the place of the sections and of the file's size.

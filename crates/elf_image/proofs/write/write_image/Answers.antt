@@ -1,7 +1,8 @@
 use Rattle.std.proofs.Common.{◌≡◌, ◌++◌, ◌∙◌, ap, sym, subst, List, ℕ}
 use Rattle.mips_isa.specs.Image.{ImageFields}
 use Rattle.elf_image.specs.Held.{IsImage}
-use Rattle.elf_image.specs.Layout.{AreWords, fields_of, front, back, image_bytes}
+use Rattle.hard_words.specs.Words.{AreWords}
+use Rattle.elf_image.specs.Layout.{fields_of, front, back, image_bytes}
 use Rattle.elf_image.proofs.Written.{image_written}
 use Rattle.elf_image.proofs.write.write_image.Goals as goal
 

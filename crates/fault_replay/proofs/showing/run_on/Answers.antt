@@ -43,6 +43,26 @@ returns-in_err-show_word-clause-part g c =
     (subst (λ (l : List ℕ). Part (g.O.Sink.written c.args.out.now) (g.O.Sink.written c.show_word.new.out) l) (sym lines)
     (part_behind _ (g.O.Sink.written c.loop-n.out) _ (word_lines (run s ch n).output) _ (i.written t) part)))
 
+pub returns-in_err-show_word-clause-stopped : goal.returns-in_err-show_word-clause-stopped
+returns-in_err-show_word-clause-stopped g c =
+    let i = c.loop-n.invariant in
+    let s : State = state_of c.args.machine.now in
+    let ch : Option Change = c.args.change in
+    let n : ℕ = c.loop-n.n in
+    let m : State = state_of c.loop-n.machine in
+    let next : State = state_of c.turned-word.new.machine in
+    let lines : word_lines (run s ch (n + 1)).output ≡ word_lines (run s ch n).output ++ line_if_any c.turned-word.result =
+    more_lines s ch n m next c.turned-word.result i.state c.turned-word.ensures in
+    let p = err_from_is_err_and c.from_residual.result c.from_residual.ensures.1 in
+    rw p.1 (
+      n + 1,
+      omega arith,
+      more_state s ch n m next c.turned-word.result i.state c.turned-word.ensures,
+      λ t.
+          subst (λ (l : List ℕ). Part (g.O.Sink.written c.args.out.now) (g.O.Sink.written c.show_word.new.out) l) (sym lines)
+          (part_behind _ (g.O.Sink.written c.loop-n.out) _ (word_lines (run s ch n).output) _ (i.written t) (c.in_err-show_word.ensures.part (subst IsTrue (sym i.tells) t))),
+    )
+
 pub loop-n-preserved : goal.loop-n-preserved
 loop-n-preserved g c =
     let i = c.loop-n.invariant in

@@ -1,17 +1,20 @@
 //! What each instruction leaves, by the MIPS I manual (Kane and Heinrich, *MIPS RISC Architecture*,
 //! appendix A), and the hazards and ends of the machine. All expected values are worked out by hand.
 
-ghost use Rattle.std.specs.Prelude.{◌≤◌, length};
-
-use crate::{End, Machine};
 use elf_image::{Aliases, Image, Windows, fits};
-use hard_words::{Change, ChangeKind, Words};
+use hard_words::{Change, ChangeKind, SetPlace, Words};
+use mips_machine::{End, Machine};
 use std::alloc::Global;
 use std::process::Abort;
 use std::test::*;
 
 // A machine about to execute words that stand at 0x00400000, with one word of memory.
-fn laid(rt: &impl Abort, alloc: Global, words: &[u32], feed: &[u32]) -> Result<Machine, Fail> {
+pub(crate) fn laid(
+    rt: &impl Abort,
+    alloc: Global,
+    words: &[u32],
+    feed: &[u32],
+) -> Result<Machine, Fail> {
     let image = Image {
         entry: 0x0040_0000,
         text: Words::from_vec(Vec::from_slice(alloc, words)?),
@@ -58,8 +61,8 @@ fn puts_out_five(rt: HostRuntime) -> Result<(), Fail> {
     for (steps, output, end) in cases {
         let mut machine = laid(&rt, rt.alloc(), &words, &[])?;
         let seen = ran(rt.alloc(), &mut machine, steps)?;
-        assert_eq!(rt; seen.as_slice(), output);
-        assert_eq!(rt; machine.end, end);
+        let same = seen.as_slice() == output && machine.end == end;
+        assert!(rt; same, "after {steps}");
     }
     Ok(())
 }
@@ -142,10 +145,9 @@ fn ends(rt: HostRuntime) -> Result<(), Fail> {
     for (words, steps, end) in cases {
         let mut machine = laid(&rt, rt.alloc(), words, &[])?;
         let _ = ran(rt.alloc(), &mut machine, steps)?;
-        assert_eq!(rt; machine.end, Some(end));
         let at = machine.pc;
-        assert_eq!(rt; machine.step(), None);
-        assert_eq!(rt; machine.pc, at);
+        let ended = machine.end == Some(end) && machine.step().is_none() && machine.pc == at;
+        assert!(rt; ended, "{end:?}");
     }
     Ok(())
 }
@@ -239,14 +241,9 @@ fn goes_on(rt: HostRuntime) -> Result<(), Fail> {
     for (words, steps, registers, at) in cases {
         let mut machine = laid(&rt, rt.alloc(), words, &[])?;
         let _ = ran(rt.alloc(), &mut machine, steps)?;
-        assert_eq!(rt; machine.end, None);
-        for at in 0..6 {
-            assert_eq!(rt;
-                machine.regs.as_slice().get(SHOWN[at]),
-                Some(&registers[at])
-            );
-        }
-        assert_eq!(rt; machine.pc, at);
+        let shown = SHOWN.map(|reg| machine.regs.get(reg));
+        let same = machine.end.is_none() && machine.pc == at && shown == registers;
+        assert!(rt; same, "at {at}");
     }
     Ok(())
 }
@@ -315,9 +312,10 @@ fn works_out(rt: HostRuntime) -> Result<(), Fail> {
     ];
     for (word, a, b, value) in cases {
         let machine = worked(&rt, rt.alloc(), word, a, b)?;
-        assert_eq!(rt; machine.end, None);
-        assert_eq!(rt; machine.regs.as_slice().get(6), Some(&value));
-        assert_eq!(rt; machine.regs.as_slice().get(0), Some(&0));
+        let same = machine.end.is_none()
+            && machine.regs.get(6) == value
+            && machine.regs.get(0) == 0;
+        assert!(rt; same, "{word} of {a} and {b}");
     }
     // Sums and differences that don't fit.
     let cases = [
@@ -330,14 +328,12 @@ fn works_out(rt: HostRuntime) -> Result<(), Fail> {
     ];
     for (word, a, b) in cases {
         let machine = worked(&rt, rt.alloc(), word, a, b)?;
-        assert_eq!(rt;
-            machine.end,
-            Some(End::Exception {
-                code: 12,
-                at: 0x0040_0010
-            })
-        );
-        assert_eq!(rt; machine.regs.as_slice().get(6), Some(&0));
+        let overflow = End::Exception {
+            code: 12,
+            at: 0x0040_0010,
+        };
+        let ended = machine.end == Some(overflow) && machine.regs.get(6) == 0;
+        assert!(rt; ended, "{word} of {a} and {b}");
     }
     Ok(())
 }
@@ -368,9 +364,8 @@ fn multiplies_and_divides(rt: HostRuntime) -> Result<(), Fail> {
     ];
     for (word, a, b, hi, lo) in cases {
         let machine = worked(&rt, rt.alloc(), word, a, b)?;
-        assert_eq!(rt; machine.end, None);
-        assert_eq!(rt; machine.hi, hi);
-        assert_eq!(rt; machine.lo, lo);
+        let same = machine.end.is_none() && machine.hi == hi && machine.lo == lo;
+        assert!(rt; same, "{word} of {a} and {b}");
     }
     Ok(())
 }
@@ -387,29 +382,54 @@ fn takes_the_feed_and_changes(rt: HostRuntime) -> Result<(), Fail> {
     ];
     let mut machine = laid(&rt, rt.alloc(), &words, &[9, 8])?;
     let _ = ran(rt.alloc(), &mut machine, 2)?;
-    assert_eq!(rt; machine.regs.as_slice().get(2), Some(&9));
-    assert_eq!(rt; machine.fed, 1);
+    let fed = machine.regs.get(2) == 9 && machine.fed == 1;
+    assert!(rt; fed);
+    for kind in [
+        ChangeKind::Flip { reg: 2, bit: 31 },
+        ChangeKind::Flip { reg: 0, bit: 3 },
+        ChangeKind::Divert { to: 0x0040_0010 },
+    ] {
+        machine.apply(Change { step: 2, kind });
+    }
+    let flipped = machine.regs.get(2) == 0x8000_0009 && machine.regs.get(0) == 0;
+    let on_its_way = machine.npc == 0x0040_000C;
+    assert!(rt; flipped && on_its_way);
+    let _ = ran(rt.alloc(), &mut machine, 1)?;
     machine.apply(Change {
-        step: 2,
-        kind: ChangeKind::Flip { reg: 2, bit: 31 },
-    });
-    machine.apply(Change {
-        step: 2,
-        kind: ChangeKind::Flip { reg: 0, bit: 3 },
-    });
-    assert_eq!(rt; machine.regs.as_slice().get(2), Some(&0x8000_0009));
-    assert_eq!(rt; machine.regs.as_slice().get(0), Some(&0));
-    let divert = Change {
         step: 2,
         kind: ChangeKind::Divert { to: 0x0040_0010 },
-    };
-    machine.apply(divert);
-    assert_eq!(rt; machine.npc, 0x0040_000C);
-    let _ = ran(rt.alloc(), &mut machine, 1)?;
-    machine.apply(divert);
-    assert_eq!(rt; machine.npc, 0x0040_0010);
+    });
+    let led = machine.npc == 0x0040_0010;
+    assert!(rt; led);
     let _ = ran(rt.alloc(), &mut machine, 2)?;
-    assert_eq!(rt; machine.regs.as_slice().get(8), Some(&1));
-    assert_eq!(rt; machine.regs.as_slice().get(9), Some(&2));
+    let went = machine.regs.get(8) == 1 && machine.regs.get(9) == 2;
+    assert!(rt; went);
+    Ok(())
+}
+
+#[test]
+fn puts_words_in_places(rt: HostRuntime) -> Result<(), Fail> {
+    let mut machine = laid(&rt, rt.alloc(), &[0], &[])?;
+    for (place, word) in [
+        (SetPlace::Reg(7), 70),
+        (SetPlace::Reg(0), 1),
+        (SetPlace::Hi, 2),
+        (SetPlace::Lo, 3),
+        (SetPlace::Memory(0x1001_0000), 4),
+        (SetPlace::Memory(0x1001_0002), 5),
+        (SetPlace::Memory(0x1001_0004), 6),
+        (SetPlace::Memory(0), 7),
+    ] {
+        machine.apply(Change {
+            step: 0,
+            kind: ChangeKind::Set { place, word },
+        });
+    }
+    let put = machine.regs.get(7) == 70
+        && machine.regs.get(0) == 0
+        && machine.hi == 2
+        && machine.lo == 3
+        && machine.memory.get(0) == 4;
+    assert!(rt; put);
     Ok(())
 }

@@ -1,56 +1,10 @@
 //! The texts of runs.
 
-ghost use Rattle.std.specs.Prelude.{true};
-
-use crate::replay;
-use elf_image::{Aliases, Image, Windows, fits};
-use hard_shelf::{Sink, SinkFault};
-use hard_words::{Change, ChangeKind, Words};
-use mips_machine::Machine;
-use std::alloc::Global;
-use std::process::Abort;
+use crate::machine::laid;
+use fault_replay::replay;
+use hard_shelf::MemorySink;
+use hard_words::{Change, ChangeKind, SetPlace};
 use std::test::*;
-
-// A sink that keeps what is written, and takes so many writes.
-#[derive(Drop)]
-struct Kept {
-    bytes: Vec<u8>,
-    room: u64,
-    faults: u64,
-}
-
-impl Sink for Kept {
-    ghost tells = { λ _. true };
-
-    ghost written = { λ s. s.bytes.items };
-
-    ghost faults = { λ s. s.faults };
-
-    fn write(&mut self, bytes: &[u8]) -> Result<(), SinkFault> {
-        if self.room == 0 || self.bytes.extend_from_slice(bytes).is_err() {
-            self.faults = self.faults.saturating_add(1);
-            return Err(SinkFault);
-        }
-        self.room -= 1;
-        Ok(())
-    }
-}
-
-// A machine about to execute words that stand at 0x00400000, with one word of memory.
-fn laid(rt: &impl Abort, alloc: Global, words: &[u32]) -> Result<Machine, Fail> {
-    let image = Image {
-        entry: 0x0040_0000,
-        text: Words::from_vec(Vec::from_slice(alloc, words)?),
-        initial: Words::new(alloc),
-        memory_words: 1,
-        windows: Windows::new(alloc),
-        aliases: Aliases::new(alloc),
-    };
-    let ready = fits(&image);
-    assert!(rt; ready);
-    let machine = Machine::boot(alloc, &image, Vec::new(alloc))?;
-    Ok(machine)
-}
 
 const FIVE: [u32; 8] = [
     0x3C04_0000,
@@ -112,15 +66,10 @@ fn shows_runs(rt: HostRuntime) -> Result<(), Fail> {
         ),
     ];
     for (words, steps, text) in cases {
-        let mut machine = laid(&rt, rt.alloc(), words)?;
-        let mut out = Kept {
-            bytes: Vec::new(rt.alloc()),
-            room: 100,
-            faults: 0,
-        };
-        let done = replay(&mut machine, None, steps, &mut out);
-        assert!(rt; done.is_ok());
-        assert_eq!(rt; out.bytes.as_slice(), text);
+        let mut machine = laid(&rt, rt.alloc(), words, &[])?;
+        let mut out = MemorySink::new(rt.alloc(), 100)?;
+        let shown = replay(&mut machine, None, steps, &mut out).is_ok() && out.written() == text;
+        assert!(rt; shown);
     }
     Ok(())
 }
@@ -129,47 +78,49 @@ fn shows_runs(rt: HostRuntime) -> Result<(), Fail> {
 fn shows_changed_runs(rt: HostRuntime) -> Result<(), Fail> {
     let flip = ChangeKind::Flip { reg: 4, bit: 0 };
     let divert = ChangeKind::Divert { to: 0x0040_0010 };
-    let cases: [(&[u32], u64, ChangeKind, u64, &[u8]); 6] = [
+    let set = ChangeKind::Set {
+        place: SetPlace::Reg(4),
+        word: 77,
+    };
+    let cases: [(&[u32], u64, ChangeKind, u64, &[u8]); 7] = [
         (&FIVE, 3, flip, 8, b"4\nexit 0\n"),
         (&FIVE, 4, flip, 8, b"5\nexit 0\n"),
         (&FIVE, 7, flip, 8, b"5\nexit 1\n"),
         (&FIVE, 8, flip, 100, b"5\nexit 0\n"),
+        (&FIVE, 3, set, 8, b"77\nexit 0\n"),
         (&WAYS, 0, divert, 3, b"trap 6\n"),
         (&WAYS, 1, divert, 3, b"going\n"),
     ];
     for (words, step, kind, steps, text) in cases {
         let known = matches!(
             kind,
-            ChangeKind::Flip { reg: 4, bit: 0 } | ChangeKind::Divert { to: _ }
+            ChangeKind::Flip { reg: 4, bit: 0 }
+                | ChangeKind::Divert { to: _ }
+                | ChangeKind::Set {
+                    place: SetPlace::Reg(4),
+                    word: _
+                }
         );
         assert!(rt; known);
-        let mut machine = laid(&rt, rt.alloc(), words)?;
-        let mut out = Kept {
-            bytes: Vec::new(rt.alloc()),
-            room: 100,
-            faults: 0,
-        };
-        let done = replay(&mut machine, Some(Change { step, kind }), steps, &mut out);
-        assert!(rt; done.is_ok());
-        assert_eq!(rt; out.bytes.as_slice(), text);
+        let mut machine = laid(&rt, rt.alloc(), words, &[])?;
+        let mut out = MemorySink::new(rt.alloc(), 100)?;
+        let change = Some(Change { step, kind });
+        let shown = replay(&mut machine, change, steps, &mut out).is_ok() && out.written() == text;
+        assert!(rt; shown);
     }
     Ok(())
 }
 
+// The write that fails, how many bytes it keeps, and what stands.
 #[test]
 fn stops_at_a_fault(rt: HostRuntime) -> Result<(), Fail> {
-    let cases: [(u64, &[u8]); 2] = [(0, b""), (1, b"5\n")];
-    for (room, text) in cases {
-        let mut machine = laid(&rt, rt.alloc(), &FIVE)?;
-        let mut out = Kept {
-            bytes: Vec::new(rt.alloc()),
-            room,
-            faults: 0,
-        };
-        let done = replay(&mut machine, None, 8, &mut out);
-        assert!(rt; done.is_err());
-        assert_eq!(rt; out.faults, 1);
-        assert_eq!(rt; out.bytes.as_slice(), text);
+    let cases: [(u64, u64, &[u8]); 3] = [(1, 0, b""), (2, 0, b"5\n"), (2, 4, b"5\nexit")];
+    for (call, keep, text) in cases {
+        let mut machine = laid(&rt, rt.alloc(), &FIVE, &[])?;
+        let mut out = MemorySink::new(rt.alloc(), 100)?;
+        out.fail_at(call, keep)?;
+        let stopped = replay(&mut machine, None, 8, &mut out).is_err() && out.written() == text;
+        assert!(rt; stopped);
     }
     Ok(())
 }
