@@ -1,0 +1,17 @@
+pub mod Wanted
+pub mod Meeting
+pub mod Rows
+pub mod Valid
+pub mod Links
+pub mod Searching
+pub mod Taking
+pub mod Fitting
+pub mod Widening
+pub mod Living
+pub mod Gathered
+pub mod Starting
+pub mod StartRows
+pub mod FitLines
+pub mod FitEnds
+pub mod Deciding
+pub mod Enough
