@@ -1,0 +1,10 @@
+pub mod Typing
+pub mod Forms
+pub mod Rules
+pub mod Rows
+pub mod Theorems
+pub mod StreamTests
+pub mod RuleTests
+pub mod StartTable
+pub mod Outcome
+pub mod Masks

@@ -1,0 +1,5 @@
+pub mod Decoded
+pub mod Words
+pub mod Around
+pub mod Windows
+pub mod Shapes

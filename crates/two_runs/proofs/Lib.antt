@@ -1,0 +1,3 @@
+pub mod Fetch
+pub mod Sorts
+pub mod Stages
