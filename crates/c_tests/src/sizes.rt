@@ -3,8 +3,8 @@
 use c_lexer::tokens;
 use c_parser::{in_order, parse};
 use c_tree::{
-    Program, TopItem, block_cost, calls_return, depth, examples_hold, levels_agree, more_fuel, nodes,
-    output_is_added, recursive_is_chain, weight,
+    Program, TopItem, block_cost, calls_return, depth, examples_hold, levels_agree, more_fuel,
+    nodes, output_is_added, recursive_is_chain, weight,
 };
 use std::fmt::Write;
 use std::test::Fail;
@@ -33,7 +33,13 @@ int f(int n){return n == 0 ? 1 : n * f(n - 1);} int main(void){int a, b = 2; do 
 // The depth, the nodes and the block cost of a program, and the weight of each function with a body.
 fn sizes_told(rt: &impl AllocGlobal, program: &Program) -> Result<String, Fail> {
     let mut told = String::new(rt.alloc());
-    write!(told, "{} {} {}", depth(program), nodes(program), block_cost(program))?;
+    write!(
+        told,
+        "{} {} {}",
+        depth(program),
+        nodes(program),
+        block_cost(program)
+    )?;
     for item in program.items.as_slice() {
         if let TopItem::Function(function) = item {
             if function.body.is_some() {
@@ -45,7 +51,11 @@ fn sizes_told(rt: &impl AllocGlobal, program: &Program) -> Result<String, Fail> 
 }
 
 // Whether a text is a program with these sizes.
-fn has_sizes(rt: &(impl AllocGlobal + std::process::Abort), text: &str, want: &str) -> Result<bool, Fail> {
+fn has_sizes(
+    rt: &(impl AllocGlobal + std::process::Abort),
+    text: &str,
+    want: &str,
+) -> Result<bool, Fail> {
     let bytes = text.as_bytes();
     assert!(rt; bytes.len() < 1000, "{text}");
     let list = tokens(rt.alloc(), bytes)?;
