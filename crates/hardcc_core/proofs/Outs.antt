@@ -1,5 +1,5 @@
 -- Runs over the words of numbers.
-use Rattle.std.proofs.Common.{◌≡◌, ◌≢◌, ℕ, zero, suc, ◌+◌, ◌-◌, ◌*◌, ◌/◌, ◌%◌, ◌^◌, ◌<◌, ◌≤◌, arith, ap, refl, sym, ◌∙◌, Bool, true, false, cond, subst, lit<, List, [], ◌∷◌, ◌++◌, length, append_assoc, append-nil, get_or, set}
+use Rattle.std.proofs.Common.{◌≡◌, ℕ, suc, ◌+◌, ◌*◌, ◌/◌, ◌%◌, ◌^◌, ◌<◌, ◌≤◌, arith, ap, refl, sym, ◌∙◌, subst, lit<, List, [], ◌∷◌, ◌++◌, length, append_assoc}
 use Rattle.std.specs.Prelude.{Option, Some, None, slice_index}
 use Rattle.std.proofs.lemmas.Nat.{or_shifted}
 use Rattle.std.proofs.lemmas.Grind.{common_steps}
@@ -9,11 +9,12 @@ use Rattle.mips_isa.specs.declared.instr.Instr.{Instr}
 use Rattle.mips_isa.specs.declared.instr.Instr.TheVariants.{Lui, Ori, Syscall}
 use Rattle.mips_isa.specs.declared.instr.End.TheVariants.{Exited}
 use Rattle.mips_isa.specs.Table.{decoded, encoding, IsInRange}
-use Rattle.mips_isa.specs.Machine.{State, reg, step, perform, planned, service, moved, ended, with_reg}
-use Rattle.hardcc_core.specs.SmallWords.{service_words, small_words, small_fields, AreWords, PutsOut}
+use Rattle.mips_isa.specs.Machine.{State, reg, step, perform, service, moved, ended}
+use Rattle.hard_words.specs.Words.{AreWords}
+use Rattle.hardcc_core.specs.SmallWords.{service_words, small_words, small_fields, PutsOut}
 use Rattle.mips_isa.specs.Image.{boot_state}
 use Rattle.hardcc_core.proofs.Steps.{At, Goes, plan, one_step, writes}
-use Rattle.mips_isa.specs.Runs.{Ran, run, put_out, after_turn}
+use Rattle.mips_isa.specs.Runs.{Ran, run, put_out}
 use Rattle.mips_isa.specs.RunLaws.{prefixed}
 use Rattle.mips_isa.proofs.Runs.{front}
 
@@ -77,6 +78,13 @@ turns l = omega arith
 abbrev Ends : Ran → List ℕ → ℕ → Type 0
 Ends r ns v = (r.output ≡ ns) × (r.state.end ≡ Some (Exited v))
 
+-- the first of some words, and the others
+word_first : (n : ℕ) (ns : List ℕ) → AreWords (n ∷ ns) → n < 2 ^ 32
+word_first n ns are = are 0 0 (omega arith)
+
+words_rest : (n : ℕ) (ns : List ℕ) → AreWords (n ∷ ns) → AreWords ns
+words_rest n ns are = λ k d within. are (suc k) d (omega (arith, within))
+
 outs : (ns : List ℕ) (v : ℕ) (s : State) (words : List ℕ) (k : ℕ) → AreWords ns → v < 2 ^ 32 → length words ≤ 66060288 → At s words k → IsAt words k (small_words ns v) → Ends (run s None (4 * length ns + 4)) ns v
 outs [] v s words k are vb lb a is =
     let g : Ready s words k v 17 = ready s words k v 17 a vb (lit< tt) lb is in
@@ -84,12 +92,12 @@ outs [] v s words k are vb lb a is =
     let r : run s None 4 ≡ run (ended (Exited v) g.next).0 None 0 = g.by 1 ∙ quiet_step g.next (ended (Exited v) g.next).0 0 t in
     subst (λ (x : Ran). Ends x [] v) (sym r) (refl, refl)
 outs (n ∷ ns) v s words k are vb lb a is =
-    let g : Ready s words k n 1 = ready s words k n 1 a are.0 (lit< tt) lb (is.0, is.1, (is.2.0, is.2.1, (is.2.2.0, is.2.2.1, (is.2.2.2.0, is.2.2.2.1, tt)))) in
+    let g : Ready s words k n 1 = ready s words k n 1 a (word_first n ns are) (lit< tt) lb (is.0, is.1, (is.2.0, is.2.1, (is.2.2.0, is.2.2.1, (is.2.2.2.0, is.2.2.2.1, tt)))) in
     let t : step g.next ≡ (moved g.next, Some n) = served g.next words (suc (suc (suc k))) g.at is.2.2.2.0 is.2.2.2.1 ∙ put_out_one g.next n g.number g.argument in
     let b : At (moved g.next) words (suc (suc (suc (suc k)))) = moved_at g.next words (suc (suc (suc k))) g.at (omega (arith, is.2.2.2.0)) in
     let m : ℕ = 4 * length ns + 4 in
     let r : run s None (suc (suc (suc (suc m)))) ≡ prefixed (n ∷ []) (run (moved g.next) None m) = g.by (suc m) ∙ loud_step g.next (moved g.next) n m t in
-    let e : Ends (run (moved g.next) None m) ns v = outs ns v (moved g.next) words (suc (suc (suc (suc k)))) are.1 vb lb b is.2.2.2.2 in
+    let e : Ends (run (moved g.next) None m) ns v = outs ns v (moved g.next) words (suc (suc (suc (suc k)))) (words_rest n ns are) vb lb b is.2.2.2.2 in
     subst (λ (x : ℕ). Ends (run s None x) (n ∷ ns) v) (sym (turns (length ns))) (subst (λ (x : Ran). Ends x (n ∷ ns) v) (sym r) (ap (λ l. n ∷ l) e.0, e.1))
 
 -- the words of a list stand in it, behind any front

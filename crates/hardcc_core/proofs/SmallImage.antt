@@ -1,16 +1,10 @@
 -- What the image of a small text is promised.
-use Rattle.std.proofs.Common.{◌≡◌, ℕ, ◌+◌, ◌-◌, ◌*◌, ◌/◌, ◌≤◌, ◌<◌, ◌^◌, arith, ap, refl, sym, ◌∙◌, subst, List, [], ◌∷◌, ◌++◌, length, true, false}
-use Rattle.std.specs.Prelude.{Option, Some, None, Result, Ok, Err, IsTrue, nat_lt, nat_le}
-use Rattle.c_tree.specs.declared.tree.Ty.TheVariants.{Int}
-use Rattle.c_tree.specs.declared.tree.Expr.{Expr, Call, Literal}
-use Rattle.c_tree.specs.declared.tree.Expr.TheFolds.{the_lemmas}
-use Rattle.c_tree.specs.declared.tree.Stmt.{Stmt, Value, Return}
-use Rattle.c_tree.specs.declared.tree.TopItem.TheVariants as item
+use Rattle.std.proofs.Common.{◌≡◌, ℕ, ◌+◌, ◌*◌, ◌/◌, ◌≤◌, arith, refl, sym, subst, List, [], ◌∷◌, length, true}
+use Rattle.std.specs.Prelude.{Result, Ok, Err, IsTrue, nat_lt}
 use Rattle.c_tree.specs.declared.tree.Program.{Program}
-use Rattle.hardcc_core.specs.Small.{SmallProgram, Outputs, IsOutput, IsReturn, literal}
+use Rattle.hardcc_core.specs.Small.{SmallProgram}
 use Rattle.mips_isa.specs.Image.{ImageFields}
 use Rattle.elf_image.specs.Bounds.{Fits, is_in_text}
-use Rattle.elf_image.specs.Layout.{data_at, sections_at, sizes_of}
 use Rattle.hardcc_core.specs.declared.compiler.Refusal.{Refusal}
 use Rattle.hardcc_core.specs.declared.compiler.Refusal.TheVariants.{TooLong, Lex, Parse, NotYet, OutOfMemory}
 use Rattle.c_lexer.specs.declared.token.Token.{Token}
@@ -23,9 +17,9 @@ use Rattle.c_parser.specs.declared.program.ParseError.TheVariants as parser
 use Rattle.c_parser.specs.Items.{Tree}
 use Rattle.c_parser.specs.Order.{InOrder}
 use Rattle.c_parser.proofs.Programs.{one_tree}
-use Rattle.c_tree.specs.Sizes.{program_depth, program_nodes}
-use Rattle.hardcc_core.specs.CompileParts.{lexer_refusal, IsImageOf, IsImageOfTokens, RefusesTokens}
-use Rattle.hardcc_core.specs.SmallWords.{AreWords, small_words, small_fields}
+use Rattle.c_tree.specs.Sizes.{program_depth}
+use Rattle.hardcc_core.specs.CompileParts.{lexer_refusal, IsImageOfTokens, RefusesTokens}
+use Rattle.hardcc_core.specs.SmallWords.{small_words, small_fields}
 use Rattle.hardcc_core.specs.Compiled.{IsSource, IsAccepted, IsRefused, IsNotCompiled, HasNoTree, Compiles}
 use Rattle.hardcc_core.proofs.SmallSame.{small_same}
 
@@ -131,3 +125,11 @@ both source OutOfMemory refused accepted = refused
 
 pub not_both : (source other : List ℕ) (refusal : Refusal) → source ≡ other → IsRefused source refusal → IsAccepted other → ⊥
 not_both source other refusal e refused accepted = both source refusal refused (subst (λ (s : List ℕ). IsAccepted s) (sym e) accepted)
+
+-- of an accepted source only memory can be wanting
+pub only_memory : (source : List ℕ) (refusal : Refusal) → IsAccepted source → IsNotCompiled source refusal → refusal ≡ OutOfMemory
+only_memory source TooLong accepted refused = absurd (both source TooLong refused accepted)
+only_memory source (Lex e) accepted refused = absurd (both source (Lex e) refused accepted)
+only_memory source (Parse e) accepted refused = absurd (both source (Parse e) refused accepted)
+only_memory source NotYet accepted refused = absurd (both source NotYet refused accepted)
+only_memory source OutOfMemory accepted refused = refl

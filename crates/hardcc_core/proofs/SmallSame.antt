@@ -1,8 +1,8 @@
 -- The image of a small text does what its program does.
-use Rattle.std.proofs.Common.{◌≡◌, ℕ, zero, suc, ◌+◌, ◌-◌, ◌*◌, ◌≤◌, ◌<◌, ◌^◌, arith, ap, refl, sym, ◌∙◌, subst, List, [], ◌∷◌, ◌++◌, length, append-nil, inl, inr}
-use Rattle.std.specs.Prelude.{Option, Some, None, ◌⊎◌}
+use Rattle.std.proofs.Common.{◌≡◌, ℕ, zero, suc, ◌+◌, ◌-◌, ◌*◌, ◌≤◌, ◌<◌, ◌^◌, arith, ap, refl, sym, ◌∙◌, subst, List, [], ◌++◌, length, append-nil, inl, inr}
+use Rattle.std.specs.Prelude.{Some, None}
 use Rattle.std.proofs.lemmas.Bool.{cases_lt}
-use Rattle.hard_words.specs.Observed.{Seen, Prefix, SameObserved}
+use Rattle.hard_words.specs.Observed.{Seen, Prefix}
 use Rattle.mips_isa.specs.declared.instr.End.{End}
 use Rattle.mips_isa.specs.declared.instr.End.TheVariants.{Exited}
 use Rattle.mips_isa.specs.Machine.{State}
@@ -10,11 +10,11 @@ use Rattle.mips_isa.specs.Runs.{Ran, run}
 use Rattle.mips_isa.specs.Image.{boot_state}
 use Rattle.mips_isa.proofs.Runs.{stays, grows}
 use Rattle.c_tree.specs.declared.tree.Program.{Program}
-use Rattle.c_tree.specs.Meaning.{CRan, c_run}
 use Rattle.hardcc_core.specs.Small.{SmallProgram}
 use Rattle.hardcc_core.proofs.Small.{small}
-use Rattle.hardcc_core.specs.SmallWords.{AreWords, small_words, small_fields}
-use Rattle.hardcc_core.specs.Same.{image_seen, program_seen, c_seen, Same, SmallSame}
+use Rattle.hard_words.specs.Words.{AreWords}
+use Rattle.hardcc_core.specs.SmallWords.{small_words, small_fields}
+use Rattle.hardcc_core.specs.Same.{program_seen, c_seen, SmallSame}
 use Rattle.hardcc_core.proofs.Outs.{puts_out}
 
 -- a run that has put out all its numbers and has ended, after so many steps

@@ -10,7 +10,8 @@ use Rattle.c_tree.specs.declared.tree.Function.{Function}
 use Rattle.c_tree.specs.declared.tree.TopItem.{TopItem}
 use Rattle.c_tree.specs.declared.tree.TopItem.TheVariants as item
 use Rattle.c_tree.specs.declared.tree.Program.{Program}
-use Rattle.hardcc_core.specs.SmallWords.{AreWords}
+use Rattle.std.proofs.lemmas.List.Elements.{All-nil, All-cons, All-append}
+use Rattle.hard_words.specs.Words.{AreWords}
 use Rattle.hardcc_core.specs.Small.{IsOutput, Outputs, IsReturn, SmallProgram}
 use Rattle.c_tree.specs.Sizes.{expression_nodes, statement_nodes, statement_nodes_step, clause_nodes_step, body_nodes, item_nodes, program_nodes}
 
@@ -101,5 +102,4 @@ few_words ns last program p = omega (arith, ap (λ is. sum (map item_nodes is)) 
 
 -- words and one more
 pub words_and_one : (ns : List ℕ) (n : ℕ) → AreWords ns → n < 2 ^ 32 → AreWords (ns ++ n ∷ [])
-words_and_one [] n words word = (word, tt)
-words_and_one (m ∷ ns) n words word = (words.0, words_and_one ns n words.1 word)
+words_and_one ns n words word = All-append (λ w. w < 2 ^ 32) ns (n ∷ []) words (All-cons (λ w. w < 2 ^ 32) n [] word (All-nil (λ w. w < 2 ^ 32)))

@@ -1,34 +1,51 @@
 -- The words of the command line, and the commands that they are.
-use Rattle.std.specs.Prelude.{ℕ, ◌≡◌, ◌&&◌, not, ◌==◌, if◌then◌else◌, Bool, List, [], ◌∷◌, length, Option, Some, None, codes, map, string_bytes}
+use Rattle.std.specs.Prelude.{ℕ, ◌&&◌, not, ◌==◌, if◌then◌else◌, Bool, List, [], ◌∷◌, length, Option, Some, None, codes, map, string_bytes}
 use Rattle.std.specs.Str.{bytes_eq}
 use Rattle.std.specs.Option.{option_map}
 use Rattle.std.specs.declared.alloc.Global.{Global}
 use Rattle.std.specs.declared.string.String.{String}
 use Rattle.hard_lines.specs.Numbers.{number_up_to}
 
--- a command with its files, each by its name, and its number of steps
+-- A command with its files, each by its name, and its numbers.
 pub data Command : Type 0 where
   Compile : (source image : List ℕ) → Command
   Run : (image input : List ℕ) (steps : ℕ) → Command
+  RunChanged : (image input : List ℕ) (steps : ℕ) (fault : List ℕ) → Command
+  ListPairs : (image : List ℕ) → Command
 
--- a name has at least one byte
-abbrev pub are_names : (first second : List ℕ) → Bool
-are_names first second = not (length first == 0) && not (length second == 0)
+-- A name has at least one byte.
+abbrev pub is_name : List ℕ → Bool
+is_name word = not (length word == 0)
+
+-- A number of steps: at most 10,000,000.
+abbrev pub steps_of : List ℕ → Option ℕ
+steps_of word = number_up_to 10000000 word
+
+-- `list IMG`
+abbrev pub list_command : (image : List ℕ) → Option Command
+list_command image = if is_name image then Some (ListPairs image) else None
 
 -- `compile SRC IMG`
 abbrev pub compile_command : (source image : List ℕ) → Option Command
-compile_command source image = if are_names source image then Some (Compile source image) else None
+compile_command source image = if is_name source && is_name image then Some (Compile source image) else None
 
--- `run IMG INPUT STEPS`, with at most 10,000,000 steps
+-- `run IMG INPUT STEPS`
 abbrev pub run_command : (image input steps : List ℕ) → Option Command
-run_command image input steps = if are_names image input then option_map (Run image input) (number_up_to 10000000 steps) else None
+run_command image input steps = if is_name image && is_name input then option_map (Run image input) (steps_of steps) else None
 
--- the command of the words of a command line, if they are the form of one
+-- `fault IMG INPUT STEPS FAULTFILE`
+abbrev pub fault_command : (image input steps fault : List ℕ) → Option Command
+fault_command image input steps fault =
+    if is_name image && (is_name input && is_name fault) then option_map (λ n. RunChanged image input n fault) (steps_of steps) else None
+
+-- The command of the words of a command line, if they are the form of one.
 abbrev pub command_of : List (List ℕ) → Option Command
-command_of (word ∷ first ∷ second ∷ []) = if bytes_eq word (codes "compile") then compile_command first second else None
-command_of (word ∷ first ∷ second ∷ third ∷ []) = if bytes_eq word (codes "run") then run_command first second third else None
+command_of (word ∷ a ∷ []) = if bytes_eq word (codes "list") then list_command a else None
+command_of (word ∷ a ∷ b ∷ []) = if bytes_eq word (codes "compile") then compile_command a b else None
+command_of (word ∷ a ∷ b ∷ c ∷ []) = if bytes_eq word (codes "run") then run_command a b c else None
+command_of (word ∷ a ∷ b ∷ c ∷ d ∷ []) = if bytes_eq word (codes "fault") then fault_command a b c d else None
 command_of _ = None
 
--- the same, of words as texts
+-- The same, of words as texts.
 abbrev pub command : List (String Global) → Option Command
 command words = command_of (map (λ word. string_bytes word) words)

@@ -1,4 +1,4 @@
--- What the parts of the compiler do.
+-- For private contracts alone: what the parts of the compiler do.
 use Rattle.std.specs.Prelude.{ℕ, ◌≡◌, ◌<◌, ◌≤◌, ◌^◌, List, length}
 use Rattle.c_lexer.specs.declared.error.LexError.{LexError}
 use Rattle.c_lexer.specs.declared.error.LexError.TheVariants as lexer
@@ -13,7 +13,8 @@ use Rattle.mips_isa.specs.Image.{ImageFields}
 use Rattle.hardcc_core.specs.declared.compiler.Refusal.{Refusal}
 use Rattle.hardcc_core.specs.declared.compiler.Refusal.TheVariants.{TooLong, Lex, Parse, NotYet, OutOfMemory}
 use Rattle.hardcc_core.specs.Compiled.{HasNoTree, IsNotSmall}
-use Rattle.hardcc_core.specs.SmallWords.{AreWords, small_fields}
+use Rattle.hard_words.specs.Words.{AreWords}
+use Rattle.hardcc_core.specs.SmallWords.{small_fields}
 
 abbrev pub lexer_refusal : LexError → Refusal
 lexer_refusal lexer.OutOfMemory = OutOfMemory

@@ -1,5 +1,5 @@
 -- Which sources are accepted, why the others are refused, and what is promised of the image of a source.
-use Rattle.std.specs.Prelude.{ℕ, ◌≡◌, ◌<◌, ◌≤◌, List, length, Ok, Err}
+use Rattle.std.specs.Prelude.{ℕ, ◌<◌, ◌≤◌, List, length, Ok, Err}
 use Rattle.c_lexer.specs.declared.token.Token.{Token}
 use Rattle.c_lexer.specs.Tokens.{Tokens}
 use Rattle.c_tree.specs.declared.tree.Program.{Program}

@@ -1,13 +1,15 @@
 -- Why a command isn't done: the status and the line of each reason.
-use Rattle.std.specs.Prelude.{ℕ, List, [], Option, Some, None}
+use Rattle.std.specs.Prelude.{ℕ, List, []}
 use Rattle.hardcc_core.specs.declared.failure.Failure.{Failure}
-use Rattle.hardcc_core.specs.declared.failure.Failure.TheVariants.{Source, Image, LargeImage, Input, LargeInput, Shelf, Memory}
-use Rattle.hardcc_core.specs.RefusalLines.{source_line, image_line, image_too_large, input_line, input_too_large}
+use Rattle.hardcc_core.specs.declared.failure.Failure.TheVariants.{Source, Image, LargeImage, Fault, LargeFault, Input, LargeInput, Shelf, Memory}
+use Rattle.hardcc_core.specs.RefusalLines.{source_line, image_line, image_too_large, fault_line, fault_too_large, input_line, input_too_large}
 
 abbrev pub status_of : Failure → ℕ
 status_of (Source refusal) = 3
 status_of (Image error) = 4
 status_of LargeImage = 4
+status_of (Fault error) = 5
+status_of LargeFault = 5
 status_of (Input error) = 6
 status_of LargeInput = 6
 status_of Shelf = 7
@@ -18,6 +20,8 @@ abbrev pub line_of : Failure → List ℕ
 line_of (Source refusal) = source_line refusal
 line_of (Image error) = image_line error
 line_of LargeImage = image_too_large
+line_of (Fault error) = fault_line error
+line_of LargeFault = fault_too_large
 line_of (Input error) = input_line error
 line_of LargeInput = input_too_large
 line_of Shelf = []

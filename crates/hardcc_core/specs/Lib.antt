@@ -6,6 +6,9 @@ pub mod Compiled
 pub mod CompileParts
 pub mod RefusalLines
 pub mod Failures
+pub mod Files
+pub mod Pairs
 pub mod Outcomes
-pub mod Causes
+pub mod Parts
+pub mod Loaded
 pub mod Seen

@@ -1,9 +1,11 @@
--- The lines that say why an image, a text of numbers or a source is refused. Numbers are decimal.
+-- The lines that say why an image, a text of numbers, a file of a fault or a source is refused. Numbers are decimal.
 use Rattle.std.specs.Prelude.{ℕ, List, [], ◌++◌, codes, decimal}
 use Rattle.fault_replay.specs.Show.{line}
 use Rattle.elf_image.specs.declared.read.ImageError.{ImageError}
 use Rattle.elf_image.specs.declared.read.ImageError.TheVariants.{Truncated, NotElf, NotMips, BadHeader, BadSegment, BadSection, TrailingBytes, OutOfMemory}
 use Rattle.hard_lines.specs.declared.inputs.LinesError.{LinesError}
+use Rattle.hard_lines.specs.declared.faults.FaultError.{FaultError}
+use Rattle.hard_lines.specs.declared.faults.FaultError.TheVariants.{NotOneLine, BadWord, OutOfRange}
 use Rattle.c_lexer.specs.declared.error.LexError.TheVariants as lexer
 use Rattle.c_lexer.specs.declared.error.LexError.TheVariants.{BadToken, LiteralTooLarge, CommentOpen}
 use Rattle.c_parser.specs.declared.program.ParseError.TheVariants as parser
@@ -41,6 +43,16 @@ input_line NoMemory = []
 -- the line of an input file that is larger than any that is read
 unfoldable pub input_too_large : List ℕ
 input_too_large = line (codes "input refused: too large")
+
+-- Why a file of one fault is refused; words are counted from 1.
+unfoldable pub fault_line : FaultError → List ℕ
+fault_line NotOneLine = line (codes "fault refused: not one line")
+fault_line (BadWord word) = line (codes "fault refused: word " ++ decimal word)
+fault_line (OutOfRange word) = line (codes "fault refused: range of word " ++ decimal word)
+
+-- the line of a fault file that is larger than any that is read
+unfoldable pub fault_too_large : List ℕ
+fault_too_large = line (codes "fault refused: too large")
 
 -- Why a source is refused, and the offset of the byte where it is.
 unfoldable pub source_line_at : List ℕ → ℕ → List ℕ

@@ -1,5 +1,5 @@
 -- What it is that an image does as its program does.
-use Rattle.std.specs.Prelude.{ℕ, ◌≡◌, ◌<◌, ◌≤◌, ◌^◌, List, [], ◌∷◌, Option, Some, None, length}
+use Rattle.std.specs.Prelude.{ℕ, ◌≡◌, ◌<◌, ◌≤◌, ◌^◌, List, Option, Some, None, length, codes}
 use Rattle.hard_words.specs.Observed.{Seen, Observation, SameObserved}
 use Rattle.mips_isa.specs.declared.instr.End.{End}
 use Rattle.mips_isa.specs.declared.instr.End.TheVariants as machine
@@ -8,9 +8,11 @@ use Rattle.mips_isa.specs.Image.{ImageFields, boot_state}
 use Rattle.c_tree.specs.declared.tree.Program.{Program}
 use Rattle.c_tree.specs.declared.run.EvalEnd.{EvalEnd}
 use Rattle.c_tree.specs.declared.run.EvalEnd.TheVariants as program
-use Rattle.c_tree.specs.Meaning.{CRan, c_run}
+use Rattle.c_lexer.specs.Tokens.{first_names, number_of}
+use Rattle.c_tree.specs.Meaning.{CRan, c_run, source_names}
 use Rattle.hardcc_core.specs.Small.{SmallProgram}
-use Rattle.hardcc_core.specs.SmallWords.{AreWords, small_words, small_fields}
+use Rattle.hard_words.specs.Words.{AreWords}
+use Rattle.hardcc_core.specs.SmallWords.{small_words, small_fields}
 
 -- what is seen of a run of the machine
 abbrev pub seen : Ran → Seen End
@@ -44,3 +46,9 @@ Same program image = (input : List ℕ) → AreWords input → SameObserved (ima
 abbrev pub SmallSame : Type 0
 SmallSame = (numbers : List ℕ) (last : ℕ) (program : Program) → SmallProgram numbers last program → AreWords numbers → last < 2 ^ 32 →
     length (small_words numbers last) ≤ 66060288 → Same program (small_fields numbers last)
+
+-- The numbers that the meaning of C takes for `main`, `in_word` and `out_word` are those that the lexer gives these spellings.
+pub record NamesAgree : Type 0 where
+  pub main : number_of first_names (codes "main") ≡ source_names.main
+  pub in_word : number_of first_names (codes "in_word") ≡ source_names.in_word
+  pub out_word : number_of first_names (codes "out_word") ≡ source_names.out_word

@@ -1,5 +1,6 @@
 -- The words of a text that puts out numbers and returns one, and its image.
-use Rattle.std.specs.Prelude.{ℕ, ◌≡◌, ◌+◌, ◌*◌, ◌/◌, ◌%◌, ◌^◌, ◌<◌, ◌≤◌, List, [], ◌∷◌, ◌++◌, length, Some, None, All}
+use Rattle.std.specs.Prelude.{ℕ, ◌≡◌, ◌+◌, ◌*◌, ◌/◌, ◌%◌, ◌^◌, ◌<◌, ◌≤◌, List, [], ◌∷◌, ◌++◌, length, Some, None}
+use Rattle.hard_words.specs.Words.{AreWords}
 use Rattle.mips_isa.specs.Table.{encoding}
 use Rattle.mips_isa.specs.declared.instr.Instr.TheVariants.{Lui, Ori, Syscall}
 use Rattle.mips_isa.specs.declared.instr.End.TheVariants.{Exited}
@@ -26,11 +27,6 @@ small_fields numbers last = record {
   windows = [];
   aliases = [];
 }
-
--- all are words of 32 bits
-abbrev pub AreWords : List ℕ → Type 0
-AreWords [] = Unit {0}
-AreWords (n ∷ ns) = (n < 2 ^ 32) × AreWords ns
 
 -- The run of such an image puts out each number in order and then ends with the last, whatever the input.
 abbrev pub PutsOut : Type 0

@@ -1,8 +1,8 @@
 //! The words of the command line.
 
-ghost use Rattle.std.specs.Prelude.{◌≡◌, ℕ, List, Option, Some, None};
+ghost use Rattle.std.specs.Prelude.{◌≡◌, IsTrue, ◌&&◌};
 ghost use Rattle.std.specs.Option.{option_map};
-ghost use Rattle.hardcc_core.specs.Commands.{command, compile_command, run_command};
+ghost use Rattle.hardcc_core.specs.Commands.{command, compile_command, run_command, fault_command, list_command, steps_of};
 ghost use Rattle.hardcc_core.specs.Seen.{seen_command};
 
 use hard_lines::number_up_to;
@@ -14,6 +14,10 @@ pub(crate) enum Command<'a> {
     Compile(CompileWords<'a>),
     /// The run of an image.
     Run(RunWords<'a>),
+    /// The run of an image with a change.
+    Fault(FaultWords<'a>),
+    /// The windows and aliases of an image.
+    List(ListWords<'a>),
 }
 
 /// The words `compile SRC IMG`.
@@ -36,28 +40,71 @@ pub(crate) struct RunWords<'a> {
     pub(crate) steps: u64,
 }
 
+/// The words `fault IMG INPUT STEPS FAULTFILE`.
+#[derive(Drop)]
+pub(crate) struct FaultWords<'a> {
+    /// The name of the image, which is read first.
+    pub(crate) image: &'a str,
+    /// The name of the input, which is read second.
+    pub(crate) input: &'a str,
+    /// How many steps are made at most, 0 to 10,000,000.
+    pub(crate) steps: u64,
+    /// The name of the file of the change, which is read third.
+    pub(crate) fault: &'a str,
+}
+
+/// The words `list IMG`.
+#[derive(Drop)]
+pub(crate) struct ListWords<'a> {
+    /// The name of the image, which is read.
+    pub(crate) image: &'a str,
+}
+
 /// The command of the words, if they are the form of one. The words are read as they are: there are
 /// no options and no other spellings.
 pub(crate) fn command_of(words: &Vec<String>) -> Option<Command<'_>>
     ensures { command words.now.items ≡ option_map seen_command result }
 {
     match words.as_slice() {
-        [word, first, second] => {
-            if word.as_str() == "compile" {
-                compile_words(first.as_str(), second.as_str())
+        [word, a] => {
+            if word.as_str() == "list" {
+                list_words(a.as_str())
             } else {
                 None
             }
         }
-        [word, first, second, third] => {
+        [word, a, b] => {
+            if word.as_str() == "compile" {
+                compile_words(a.as_str(), b.as_str())
+            } else {
+                None
+            }
+        }
+        [word, a, b, c] => {
             if word.as_str() == "run" {
-                run_words(first.as_str(), second.as_str(), third.as_str())
+                run_words(a.as_str(), b.as_str(), c.as_str())
+            } else {
+                None
+            }
+        }
+        [word, a, b, c, d] => {
+            if word.as_str() == "fault" {
+                fault_words(a.as_str(), b.as_str(), c.as_str(), d.as_str())
             } else {
                 None
             }
         }
         _ => None,
     }
+}
+
+fn list_words<'a>(image: &'a str) -> Option<Command<'a>>
+    ensures { list_command image.now ≡ option_map seen_command result }
+{
+    if image.is_empty() {
+        return None;
+    }
+    Some(Command::List(ListWords { image }))
 }
 
 fn compile_words<'a>(source: &'a str, image: &'a str) -> Option<Command<'a>>
@@ -75,7 +122,7 @@ fn run_words<'a>(image: &'a str, input: &'a str, steps: &str) -> Option<Command<
     if image.is_empty() || input.is_empty() {
         return None;
     }
-    match number_up_to(steps.as_bytes(), 10_000_000) {
+    match steps_of(steps) {
         None => None,
         Some(steps) => Some(Command::Run(RunWords {
             image,
@@ -83,4 +130,33 @@ fn run_words<'a>(image: &'a str, input: &'a str, steps: &str) -> Option<Command<
             steps,
         })),
     }
+}
+
+fn fault_words<'a>(
+    image: &'a str,
+    input: &'a str,
+    steps: &str,
+    fault: &'a str,
+) -> Option<Command<'a>>
+    ensures { fault_command image.now input.now steps.now fault.now ≡ option_map seen_command result }
+{
+    if image.is_empty() || input.is_empty() || fault.is_empty() {
+        return None;
+    }
+    match steps_of(steps) {
+        None => None,
+        Some(steps) => Some(Command::Fault(FaultWords {
+            image,
+            input,
+            steps,
+            fault,
+        })),
+    }
+}
+
+// A number of steps.
+fn steps_of(word: &str) -> Option<u64>
+    ensures { result ≡ steps_of word.now }
+{
+    number_up_to(word.as_bytes(), 10_000_000)
 }

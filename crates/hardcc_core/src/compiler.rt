@@ -1,8 +1,8 @@
 //! From a source to its image.
 
-ghost use Rattle.std.specs.Prelude.{◌≡◌, ◌≤◌, ◌+◌, ◌*◌, ◌++◌, ℕ, List, IfOk, OnOk, IfErr, length};
+ghost use Rattle.std.specs.Prelude.{◌≡◌, ◌<◌, ◌≤◌, ◌+◌, ◌*◌, ◌++◌, ℕ, List, IfOk, OnOk, IfErr, Err, IsOkUnless, length};
 ghost use Rattle.elf_image.specs.Layout.{fields_of};
-ghost use Rattle.hardcc_core.specs.Compiled.{IsAccepted, IsNotCompiled, Compiles};
+ghost use Rattle.hardcc_core.specs.Compiled.{IsAccepted, IsNotCompiled, Compiles, longest_source};
 ghost use Rattle.hardcc_core.specs.CompileParts.{lexer_refusal, parser_refusal, IsImageOf, IsImageOfTokens, RefusesTokens, RefusesProgram};
 ghost use Rattle.c_parser.specs.Order.{InOrder};
 ghost use Rattle.hardcc_core.specs.SmallWords.{small_words, small_fields, service_words};
@@ -11,7 +11,7 @@ use crate::small_program::{SmallText, read_small_program};
 use c_lexer::{LexError, Token, tokens};
 use c_parser::{ParseError, parse};
 use c_tree::Program;
-use elf_image::{Aliases, Image, Windows};
+use elf_image::{Aliases, Image, TEXT_START, Windows};
 use hard_words::{OutOfMemory, Words};
 use mips_isa::{Instr, encode};
 use std::alloc::{AllocError, Global};
@@ -37,6 +37,9 @@ pub enum Refusal {
     OutOfMemory,
 }
 
+/// The greatest number of bytes of a source.
+pub(crate) const LONGEST_SOURCE: u64 = 1_048_576;
+
 // The service numbers of the machine that are used.
 const PUT_OUT: u16 = 1;
 
@@ -51,14 +54,16 @@ const EXIT: u16 = 17;
 ///
 /// The first of these that holds: `TooLong`, where the source has more bytes; `Lex`, the first fault
 /// of its tokens (ISO/IEC 9899, 6.4); `Parse`, where they are no program of depth at most 256 (6.5 to
-/// 6.9); `NotYet`, where that program is not of the small form. `OutOfMemory` comes only where memory
-/// was refused, in place of any other answer.
+/// 6.9); `NotYet`, where that program is not of the small form. `TooLong` takes no memory; `OutOfMemory` may stand in
+/// place of any other answer.
 pub fn compile(alloc: Global, source: &[u8]) -> Result<Image, Refusal>
     ensures ok { IfOk result (λ image. Compiles source.now (fields_of image)) }
     ensures accepted { IfOk result (λ image. IsAccepted source.now) }
     ensures refused { IfErr result (λ refusal. IsNotCompiled source.now refusal) }
+    ensures too_long { longest_source < length source.now → result ≡ Err Refusal.TooLong }
+    ensures complete { IsAccepted source.now → IsOkUnless result Refusal.OutOfMemory }
 {
-    if source.len() > 1_048_576 {
+    if source.len() as u64 > LONGEST_SOURCE {
         return Err(Refusal::TooLong);
     }
     match tokens(alloc, source) {
@@ -118,7 +123,7 @@ fn image_of(alloc: Global, small: &SmallText) -> Result<Image, OutOfMemory>
 {
     let text = emit(alloc, small)?;
     Ok(Image {
-        entry: 0x0040_0000,
+        entry: TEXT_START,
         text: Words::from_vec(text),
         initial: Words::new(alloc),
         memory_words: 1,

@@ -1,20 +1,27 @@
 //! Why a command is not done, and what is said of it.
 
-ghost use Rattle.std.specs.Prelude.{◌≡◌, ◌≢◌, ◌⊎◌, ◌++◌, [], IsTrue};
-ghost use Rattle.hard_shelf.specs.Outside.{Rose, AppendsPart};
+ghost use Rattle.std.specs.Prelude.{◌≡◌, ◌⊎◌, IsTrue, is_ok, if◌then◌else◌};
+ghost use Rattle.hard_shelf.specs.Outside.{Rose};
 ghost use Rattle.hardcc_core.specs.Failures.{line_of, status_of};
+ghost use Rattle.hardcc_core.specs.Parts.{Said};
 
 use crate::compiler::Refusal;
-use crate::refusal_lines::{image_line, image_too_large, input_line, input_too_large, source_line};
+use crate::refusal_lines::{
+    fault_line, fault_too_large, image_line, image_too_large, input_line, input_too_large,
+    source_line,
+};
 use elf_image::ImageError;
-use hard_lines::LinesError;
-use hard_shelf::Sink;
+use hard_lines::{FaultError, LinesError};
+use hard_shelf::{Sink, SinkFault};
+use hard_words::OutOfMemory;
 
-// The statuses of a call that reads its words.
+/// The status of a call that did all.
 pub(crate) const DONE: u8 = 0;
 
+/// The status of a call whose words are no command.
 pub(crate) const USAGE: u8 = 2;
 
+/// The status of a call whose sink failed.
 pub(crate) const SINK_FAULT: u8 = 8;
 
 /// Why a command is not done.
@@ -26,6 +33,10 @@ pub enum Failure {
     Image(ImageError),
     /// The image has more than 3,221,225,472 bytes.
     LargeImage,
+    /// The file of the fault is refused.
+    Fault(FaultError),
+    /// The file of the fault has more than 256 bytes.
+    LargeFault,
     /// The input is refused.
     Input(LinesError),
     /// The input has more than 16,777,216 bytes.
@@ -36,18 +47,28 @@ pub enum Failure {
     Memory,
 }
 
-/// Says why a command is not done, and answers the status.
+impl From<OutOfMemory> for Failure {
+    ghost use Rattle.hardcc_core.specs.declared.failure.Failure.TheVariants.{Memory};
+
+    ghost from_gives = { λ _ failure. failure ≡ Memory };
+
+    fn from(_error: OutOfMemory) -> Failure {
+        Failure::Memory
+    }
+}
+
+/// Says why a command is not done, and answers the status. Nothing is said of the shelf and of memory.
 pub(crate) fn report<O: Sink>(out: &mut O, failure: Failure) -> u8
-    ensures status { (result ≡ status_of failure) ⊎ (result ≡ 8) }
-    ensures fault { result ≡ 8 → Rose (O.faults out.old) (O.faults out.new) }
-    ensures written { result ≡ status_of failure → IsTrue (O.tells out.old) → O.written out.new ≡ O.written out.old ++ line_of failure }
-    ensures part { result ≡ 8 → IsTrue (O.tells out.old) → AppendsPart (O.written out.old) (O.written out.new) (line_of failure) }
-    ensures silent { (status_of failure ≡ 7) ⊎ (status_of failure ≡ 9) → result ≡ status_of failure }
+    ensures said { Said (IsTrue (O.tells out.old)) (O.written out.old) (O.written out.new) (Rose (O.faults out.old) (O.faults out.new))
+        (line_of failure) (status_of failure) result }
+    ensures silent { (status_of failure ≡ 7) ⊎ (status_of failure ≡ 9) → (result ≡ status_of failure) × (IsTrue (O.tells out.old) → O.written out.new ≡ O.written out.old) }
 {
     match failure {
         Failure::Source(refusal) => say(out, source_line(refusal).as_slice(), 3),
         Failure::Image(error) => say(out, image_line(error).as_slice(), 4),
         Failure::LargeImage => say(out, image_too_large(), 4),
+        Failure::Fault(error) => say(out, fault_line(error).as_slice(), 5),
+        Failure::LargeFault => say(out, fault_too_large(), 5),
         Failure::Input(error) => say(out, input_line(error).as_slice(), 6),
         Failure::LargeInput => say(out, input_too_large(), 6),
         Failure::Shelf => 7,
@@ -57,14 +78,20 @@ pub(crate) fn report<O: Sink>(out: &mut O, failure: Failure) -> u8
 
 /// Writes a line, and answers the status, or that the sink failed.
 pub(crate) fn say<O: Sink>(out: &mut O, line: &[u8], status: u8) -> u8
-    requires { status ≢ 8 }
-    ensures status { (result ≡ status) ⊎ (result ≡ 8) }
-    ensures fault { result ≡ 8 → Rose (O.faults out.old) (O.faults out.new) }
-    ensures written { result ≡ status → IsTrue (O.tells out.old) → O.written out.new ≡ O.written out.old ++ line.now }
-    ensures part { result ≡ 8 → IsTrue (O.tells out.old) → AppendsPart (O.written out.old) (O.written out.new) line.now }
+    ensures { Said (IsTrue (O.tells out.old)) (O.written out.old) (O.written out.new) (Rose (O.faults out.old) (O.faults out.new)) line.now status result }
 {
     match out.write(line) {
         Ok(()) => status,
+        Err(_) => SINK_FAULT,
+    }
+}
+
+/// The status of a text that was written, or not.
+pub(crate) fn status_of_text(work: Result<(), SinkFault>) -> u8
+    ensures { result ≡ (if is_ok work then 0 else 8) }
+{
+    match work {
+        Ok(()) => DONE,
         Err(_) => SINK_FAULT,
     }
 }

@@ -2,7 +2,7 @@
 
 ghost use Rattle.hardcc_core.specs.Small.{SmallRuns};
 ghost use Rattle.hardcc_core.specs.SmallWords.{PutsOut};
-ghost use Rattle.hardcc_core.specs.Same.{SmallSame};
+ghost use Rattle.hardcc_core.specs.Same.{SmallSame, NamesAgree};
 
 /// The smallest programs put out their numbers in order and exit with the last.
 pub fn small_runs()
@@ -17,4 +17,9 @@ pub fn straight_line()
 /// The image of a small text does what its program does.
 pub fn small_same()
     ensures { SmallSame }
+{}
+
+/// The numbers that the meaning of C takes for the names `main`, `in_word` and `out_word` are those of the lexer.
+pub fn names_agree()
+    ensures { NamesAgree }
 {}

@@ -6,14 +6,15 @@ mod compile_file;
 mod compiler;
 mod failure;
 mod laws;
+mod list_file;
+mod put_file;
 mod refusal_lines;
 mod run_file;
 mod small_program;
-#[cfg(test)]
-mod tests;
+mod take;
 mod tool;
 
 pub use compiler::{Refusal, compile};
 pub use failure::Failure;
-pub use laws::{small_runs, small_same, straight_line};
+pub use laws::{names_agree, small_runs, small_same, straight_line};
 pub use tool::run_tool;

@@ -1,19 +1,16 @@
-//! The lines that say why an image, a text of numbers or a source is refused, made without an allocation.
+//! The lines that say why an image, a text of numbers, a file of a fault or a source is refused, made without an allocation.
 
 ghost use Rattle.std.specs.Prelude.{◌≡◌, ◌+◌, ◌≤◌, ◌++◌, length, decimal};
 ghost use Rattle.fault_replay.specs.Show.{line};
-ghost use Rattle.hardcc_core.specs.RefusalLines.{source_line, need_and_have, image_line, image_too_large, input_line, input_too_large, source_line_at};
+ghost use Rattle.hardcc_core.specs.RefusalLines.{source_line, need_and_have, image_line, image_too_large, fault_line, fault_too_large, input_line, input_too_large, source_line_at};
 
 use crate::compiler::Refusal;
 use arrayvec::ArrayVec;
 use c_lexer::LexError;
 use c_parser::ParseError;
 use elf_image::ImageError;
-use hard_lines::LinesError;
-use itoa::Buffer;
-
-/// Room for each line: the longest have 83 bytes.
-pub(crate) type Line = ArrayVec<u8, 128>;
+use fault_replay::{Line, put, put_number};
+use hard_lines::{FaultError, LinesError};
 
 /// The line of why bytes hold no image; empty for want of memory.
 #[tactic(auto, unfolding(crate::specs::RefusalLines::image_line))]
@@ -72,6 +69,28 @@ pub(crate) fn input_too_large() -> &'static [u8]
     ensures { result.now ≡ input_too_large }
 {
     b"input refused: too large\n"
+}
+
+/// The line of why a file of one fault is refused.
+#[tactic(auto, unfolding(crate::specs::RefusalLines::fault_line))]
+pub(crate) fn fault_line(error: FaultError) -> Line
+    ensures { result.items ≡ fault_line error }
+{
+    match error {
+        FaultError::NotOneLine => plain_line(b"fault refused: not one line"),
+        FaultError::BadWord { word } => number_line(b"fault refused: word ", word as u64),
+        FaultError::OutOfRange { word } => {
+            number_line(b"fault refused: range of word ", word as u64)
+        }
+    }
+}
+
+/// The line of a file of one fault that is larger than any that is read.
+#[tactic(auto, unfolding(crate::specs::RefusalLines::fault_too_large))]
+pub(crate) fn fault_too_large() -> &'static [u8]
+    ensures { result.now ≡ fault_too_large }
+{
+    b"fault refused: too large\n"
 }
 
 /// The line of why a source is refused; empty for want of memory.
@@ -141,99 +160,4 @@ fn counts_line(cause: &[u8], need: u64, have: u64) -> Line
     put_number(&mut line, have);
     line.push(b'\n');
     line
-}
-
-// A number has at most 20 digits.
-fn put_number(line: &mut Line, number: u64)
-    requires { length line.old.items + 20 ≤ 128 }
-    ensures text { line.new.items ≡ line.old.items ++ decimal number }
-    ensures fits { length line.new.items ≤ length line.old.items + 20 }
-{
-    let mut buffer = Buffer::new();
-    put(line, buffer.format(number).as_bytes());
-}
-
-fn put(line: &mut Line, bytes: &[u8])
-    requires { length line.old.items + length bytes.now ≤ 128 }
-    ensures { line.new.items ≡ line.old.items ++ bytes.now }
-{
-    for b in bytes {
-        line.push(*b);
-    }
-}
-
-#[cfg(test)]
-mod tests {
-    use super::*;
-
-    #[test]
-    fn says_each_refusal(rt: HostRuntime) {
-        let cases: [(Line, &[u8]); 15] = [
-            (
-                image_line(ImageError::Truncated {
-                    need: 8484,
-                    have: 8483,
-                }),
-                b"image refused: truncated, need 8484 have 8483\n",
-            ),
-            (image_line(ImageError::NotElf), b"image refused: not ELF\n"),
-            (
-                image_line(ImageError::NotMips),
-                b"image refused: not MIPS\n",
-            ),
-            (
-                image_line(ImageError::BadHeader { field: 24 }),
-                b"image refused: header field at 24\n",
-            ),
-            (
-                image_line(ImageError::BadSegment { index: 1 }),
-                b"image refused: segment 1\n",
-            ),
-            (
-                image_line(ImageError::BadSection { index: 3 }),
-                b"image refused: section 3\n",
-            ),
-            (
-                image_line(ImageError::TrailingBytes {
-                    need: 8484,
-                    have: 8485,
-                }),
-                b"image refused: trailing bytes, need 8484 have 8485\n",
-            ),
-            (
-                image_line(ImageError::TrailingBytes {
-                    need: 18_446_744_073_709_551_615,
-                    have: 0,
-                }),
-                b"image refused: trailing bytes, need 18446744073709551615 have 0\n",
-            ),
-            (image_line(ImageError::OutOfMemory), b""),
-            (
-                input_line(LinesError::BadNumber { line: 1 }),
-                b"input refused: number on line 1\n",
-            ),
-            (
-                input_line(LinesError::TooMany),
-                b"input refused: too many numbers\n",
-            ),
-            (input_line(LinesError::OutOfMemory), b""),
-            (
-                source_line_at(b"NameUnknown", 22),
-                b"source refused: NameUnknown at 22\n",
-            ),
-            (
-                source_line_at(b"NoMain", 0),
-                b"source refused: NoMain at 0\n",
-            ),
-            (
-                source_line_at(b"", 4_294_967_295),
-                b"source refused:  at 4294967295\n",
-            ),
-        ];
-        for (line, want) in &cases {
-            assert_eq!(rt; line.as_slice(), *want);
-        }
-        assert_eq!(rt; image_too_large(), b"image refused: too large\n".as_slice());
-        assert_eq!(rt; input_too_large(), b"input refused: too large\n".as_slice());
-    }
 }

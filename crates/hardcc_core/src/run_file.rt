@@ -1,113 +1,131 @@
-//! The command that runs an image.
+//! The commands that run an image, with a change or without.
 
-ghost use Rattle.std.specs.Prelude.{◌≡◌, ◌⊎◌, ◌≤◌, Some, None, IsTrue, IfOk, IfErr, IsErrOf, length};
+ghost use Rattle.std.specs.Prelude.{◌≡◌, ◌≤◌, [], ◌∷◌, Some, IsTrue, IfOk, length};
 ghost use Rattle.elf_image.specs.Bounds.{Fits};
 ghost use Rattle.elf_image.specs.Layout.{fields_of};
 ghost use Rattle.hard_shelf.specs.Outside.{Rose, SameNames};
+ghost use Rattle.hardcc_core.specs.Commands.{Run, RunChanged};
+ghost use Rattle.hardcc_core.specs.Files.{ImageFile, InputFile, FaultFile};
+ghost use Rattle.hardcc_core.specs.Loaded.{IsLoaded, IsChanged};
+ghost use Rattle.hardcc_core.specs.Parts.{Reads, Leaves};
+ghost use Rattle.mips_isa.specs.Image.{boot_state};
+ghost use Rattle.mips_isa.specs.Runs.{IsChange};
 ghost use Rattle.mips_machine.specs.View.{state_of};
-ghost use Rattle.hardcc_core.specs.Causes.{Explains, RefusesInput, Starts, image_failure, input_failure};
-ghost use Rattle.hardcc_core.specs.Outcomes.{Holds, IsRunnable, IsInput, RefusesRun};
 
-use crate::command::RunWords;
-use crate::failure::Failure;
-use elf_image::{Image, ImageError, read_image};
-use hard_lines::{LinesError, read_inputs};
-use hard_shelf::{Shelf, ShelfError};
-use hard_words::OutOfMemory;
+use crate::command::{FaultWords, RunWords};
+use crate::failure::{Failure, report, status_of_text};
+use crate::take::{take_fault, take_image, take_input};
+use elf_image::Image;
+use fault_replay::replay;
+use hard_shelf::{Shelf, Sink};
+use hard_words::{Change, OutOfMemory};
 use mips_machine::Machine;
 use std::alloc::Global;
 
-/// The machine at the start of the run of an image on an input. The image is taken, and refused
-/// where it is bad, before the input is taken.
-pub(crate) fn load<H: Shelf>(
+/// What a run begins with.
+#[derive(Drop)]
+pub(crate) struct Loaded {
+    /// The image that is run.
+    pub(crate) image: Image,
+    /// The words that the program can ask for.
+    pub(crate) feed: Vec<u32>,
+}
+
+/// The words `run IMG INPUT STEPS`: the run is shown.
+pub(crate) fn run_image<H: Shelf, O: Sink>(
     alloc: Global,
     words: &RunWords<'_>,
     shelf: &mut H,
-) -> Result<Machine, Failure>
-    ensures same { SameNames (H.held shelf.old) (H.held shelf.new) }
-    ensures ok { IfOk result (λ machine. IsTrue (H.tells shelf.old) → Starts (H.held shelf.old) words.now.image.now words.now.input.now (state_of machine)) }
-    ensures explained { IfErr result (λ failure. IsTrue (H.tells shelf.old) →
-        Explains (RefusesRun (H.held shelf.old) words.now.image.now words.now.input.now) failure) }
-    ensures shelf { IsErrOf result Failure.Shelf → Rose (H.faults shelf.old) (H.faults shelf.new) ⊎
-        (IsTrue (H.tells shelf.old) × ((H.held shelf.old words.now.image.now ≡ None) ⊎ (H.held shelf.old words.now.input.now ≡ None))) }
+    out: &mut O,
+) -> u8
+    ensures { Leaves (IsTrue (H.tells shelf.old)) (H.held shelf.old) (H.held shelf.new) (Rose (H.faults shelf.old) (H.faults shelf.new))
+        (IsTrue (O.tells out.old)) (O.written out.old) (O.written out.new) (Rose (O.faults out.old) (O.faults out.new))
+        (Some (Run words.now.image.now words.now.input.now words.now.steps)) result }
 {
-    let image = image_of(alloc, words, shelf)?;
-    match feed_of(alloc, words, shelf) {
-        Err(failure) => Err(failure),
-        Ok(feed) => match Machine::boot(alloc, &image, feed) {
-            Ok(machine) => Ok(machine),
-            Err(OutOfMemory) => Err(Failure::Memory),
+    match load(alloc, words.image, words.input, shelf) {
+        Err(failure) => report(out, failure),
+        Ok(loaded) => match booted(alloc, loaded) {
+            Err(OutOfMemory) => report(out, Failure::Memory),
+            Ok(mut machine) => status_of_text(replay(&mut machine, None, words.steps, out)),
         },
     }
 }
 
-// The image.
-fn image_of<H: Shelf>(alloc: Global, words: &RunWords<'_>, shelf: &mut H) -> Result<Image, Failure>
-    ensures tells { H.tells shelf.new ≡ H.tells shelf.old }
-    ensures same { SameNames (H.held shelf.old) (H.held shelf.new) }
-    ensures count { H.faults shelf.old ≤ H.faults shelf.new }
-    ensures fits { IfOk result (λ image. Fits (fields_of image)) }
-    ensures ok { IfOk result (λ image. IsTrue (H.tells shelf.old) → Holds (H.held shelf.old) words.now.image.now (λ bytes. IsRunnable bytes (fields_of image))) }
-    ensures explained { IfErr result (λ failure. IsTrue (H.tells shelf.old) →
-        Explains (RefusesRun (H.held shelf.old) words.now.image.now words.now.input.now) failure) }
-    ensures shelf { IsErrOf result Failure.Shelf → Rose (H.faults shelf.old) (H.faults shelf.new) ⊎
-        (IsTrue (H.tells shelf.old) × (H.held shelf.old words.now.image.now ≡ None)) }
-{
-    let bytes = match shelf.take(alloc, words.image, 3_221_225_472) {
-        Ok(bytes) => bytes,
-        Err(ShelfError::TooLarge) => return Err(Failure::LargeImage),
-        Err(ShelfError::OutOfMemory) => return Err(Failure::Memory),
-        Err(ShelfError::Absent) => return Err(Failure::Shelf),
-        Err(ShelfError::Failed) => return Err(Failure::Shelf),
-    };
-    match read_image(alloc, &bytes) {
-        Ok(image) => Ok(image),
-        Err(error) => Err(image_failure(error)),
-    }
-}
-
-// The numbers of the input.
-fn feed_of<H: Shelf>(
+/// The words `fault IMG INPUT STEPS FAULTFILE`: the run with the change is shown.
+pub(crate) fn run_changed<H: Shelf, O: Sink>(
     alloc: Global,
-    words: &RunWords<'_>,
+    words: &FaultWords<'_>,
     shelf: &mut H,
-) -> Result<Vec<u32>, Failure>
+    out: &mut O,
+) -> u8
+    ensures { Leaves (IsTrue (H.tells shelf.old)) (H.held shelf.old) (H.held shelf.new) (Rose (H.faults shelf.old) (H.faults shelf.new))
+        (IsTrue (O.tells out.old)) (O.written out.old) (O.written out.new) (Rose (O.faults out.old) (O.faults out.new))
+        (Some (RunChanged words.now.image.now words.now.input.now words.now.steps words.now.fault.now)) result }
+{
+    match load_changed(alloc, words, shelf) {
+        Err(failure) => report(out, failure),
+        Ok((loaded, change)) => match booted(alloc, loaded) {
+            Err(OutOfMemory) => report(out, Failure::Memory),
+            Ok(mut machine) => {
+                status_of_text(replay(&mut machine, Some(change), words.steps, out))
+            }
+        },
+    }
+}
+
+// The machine at the start of a run.
+fn booted(alloc: Global, loaded: Loaded) -> Result<Machine, OutOfMemory>
+    requires fits { Fits (fields_of loaded.image) }
+    requires few { length loaded.feed.items ≤ 1000000 }
+    ensures { IfOk result (λ machine. state_of machine ≡ boot_state (fields_of loaded.image) loaded.feed.items) }
+{
+    let Loaded { image, feed } = loaded;
+    Machine::boot(alloc, &image, feed)
+}
+
+/// The image and the input under two names. The image is taken, and refused where it is bad, before the input is taken.
+pub(crate) fn load<H: Shelf>(
+    alloc: Global,
+    image: &str,
+    input: &str,
+    shelf: &mut H,
+) -> Result<Loaded, Failure>
     ensures tells { H.tells shelf.new ≡ H.tells shelf.old }
     ensures same { SameNames (H.held shelf.old) (H.held shelf.new) }
     ensures count { H.faults shelf.old ≤ H.faults shelf.new }
-    ensures few { IfOk result (λ feed. length feed.items ≤ 1000000) }
-    ensures ok { IfOk result (λ feed. IsTrue (H.tells shelf.old) → Holds (H.held shelf.old) words.now.input.now (λ text. IsInput text feed.items)) }
-    ensures explained { IfErr result (λ failure. IsTrue (H.tells shelf.old) → Explains (RefusesInput (H.held shelf.old) words.now.input.now) failure) }
-    ensures shelf { IsErrOf result Failure.Shelf → Rose (H.faults shelf.old) (H.faults shelf.new) ⊎
-        (IsTrue (H.tells shelf.old) × (H.held shelf.old words.now.input.now ≡ None)) }
+    ensures reads { Reads (IsTrue (H.tells shelf.old)) (H.held shelf.old) (Rose (H.faults shelf.old) (H.faults shelf.new))
+        (ImageFile image.now ∷ InputFile input.now ∷ []) (IsLoaded (H.held shelf.old) image.now input.now) result }
+    ensures fits { IfOk result (λ loaded. Fits (fields_of loaded.image)) }
+    ensures few { IfOk result (λ loaded. length loaded.feed.items ≤ 1000000) }
 {
-    let text = match shelf.take(alloc, words.input, 16_777_216) {
-        Ok(text) => text,
-        Err(ShelfError::TooLarge) => return Err(Failure::LargeInput),
-        Err(ShelfError::OutOfMemory) => return Err(Failure::Memory),
-        Err(ShelfError::Absent) => return Err(Failure::Shelf),
-        Err(ShelfError::Failed) => return Err(Failure::Shelf),
-    };
-    match read_inputs(alloc, &text) {
-        Ok(feed) => Ok(feed),
-        Err(error) => Err(input_failure(error)),
+    match take_image(alloc, image, shelf) {
+        Err(failure) => Err(failure),
+        Ok(image) => match take_input(alloc, input, shelf) {
+            Err(failure) => Err(failure),
+            Ok(feed) => Ok(Loaded { image, feed }),
+        },
     }
 }
 
-fn image_failure(error: ImageError) -> Failure
-    ensures { result ≡ image_failure error }
+// The same and the change, which is taken last.
+fn load_changed<H: Shelf>(
+    alloc: Global,
+    words: &FaultWords<'_>,
+    shelf: &mut H,
+) -> Result<(Loaded, Change), Failure>
+    ensures same { SameNames (H.held shelf.old) (H.held shelf.new) }
+    ensures change { IfOk result (λ both. IsChange both.1.kind) }
+    ensures reads { Reads (IsTrue (H.tells shelf.old)) (H.held shelf.old) (Rose (H.faults shelf.old) (H.faults shelf.new))
+        (ImageFile words.now.image.now ∷ InputFile words.now.input.now ∷ FaultFile words.now.fault.now ∷ [])
+        (IsChanged (H.held shelf.old) words.now.image.now words.now.input.now words.now.fault.now) result }
+    ensures fits { IfOk result (λ both. Fits (fields_of both.0.image)) }
+    ensures few { IfOk result (λ both. length both.0.feed.items ≤ 1000000) }
 {
-    match error {
-        ImageError::OutOfMemory => Failure::Memory,
-        _ => Failure::Image(error),
-    }
-}
-
-fn input_failure(error: LinesError) -> Failure
-    ensures { result ≡ input_failure error }
-{
-    match error {
-        LinesError::OutOfMemory => Failure::Memory,
-        _ => Failure::Input(error),
+    match load(alloc, words.image, words.input, shelf) {
+        Err(failure) => Err(failure),
+        Ok(loaded) => match take_fault(alloc, words.fault, shelf) {
+            Err(failure) => Err(failure),
+            Ok(change) => Ok((loaded, change)),
+        },
     }
 }

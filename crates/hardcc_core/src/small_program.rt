@@ -6,7 +6,7 @@ ghost use Rattle.c_tree.specs.declared.tree.Stmt.{Stmt};
 ghost use Rattle.c_tree.specs.declared.tree.TopItem.TheVariants as item;
 ghost use Rattle.hardcc_core.specs.Small.{literal, IsOutput, Outputs, IsReturn, SmallProgram};
 ghost use Rattle.c_tree.specs.Sizes.{program_nodes};
-ghost use Rattle.hardcc_core.specs.SmallWords.{AreWords};
+ghost use Rattle.hard_words.specs.Words.{AreWords};
 
 use c_tree::{Expr, Function, Program, Stmt, TopItem, Ty};
 use hard_words::{OutOfMemory, Words};

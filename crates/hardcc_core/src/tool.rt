@@ -1,21 +1,19 @@
 //! The top call.
 
-ghost use Rattle.std.specs.Prelude.{◌≡◌, ◌⊎◌, ◌++◌, List, ℕ, None, IsTrue, IfOk, IfErr, OnOk, codes};
-ghost use Rattle.fault_replay.specs.Show.{shown};
+ghost use Rattle.std.specs.Prelude.{◌≡◌, ◌⊎◌, ◌++◌, List, ℕ, None, IsTrue};
 ghost use Rattle.hard_shelf.specs.Outside.{Rose, SameNames, AppendsPart};
-ghost use Rattle.mips_isa.specs.Runs.{run};
-ghost use Rattle.mips_machine.specs.View.{state_of};
+ghost use Rattle.hardcc_core.specs.declared.failure.Failure.{Failure};
 ghost use Rattle.hardcc_core.specs.Commands.{command};
-ghost use Rattle.hardcc_core.specs.Failures.{status_of, line_of};
-ghost use Rattle.hardcc_core.specs.Outcomes.{Misses, Refuses, Accepts, Puts, Done, Says};
+ghost use Rattle.hardcc_core.specs.Failures.{status_of};
+ghost use Rattle.hardcc_core.specs.Outcomes.{Misses, Refuses, Accepts, Puts, Done, Says, IsRefusal};
+ghost use Rattle.hardcc_core.specs.Parts.{Leaves};
 
 use crate::command::{Command, command_of};
 use crate::compile_file::compile_file;
-use crate::failure::{DONE, Failure, SINK_FAULT, USAGE, report, say};
-use crate::run_file::load;
-use fault_replay::replay;
+use crate::failure::{USAGE, say};
+use crate::list_file::list_pairs;
+use crate::run_file::{run_changed, run_image};
 use hard_shelf::{Shelf, Sink};
-use mips_machine::Machine;
 use std::alloc::Global;
 
 /// Does what the words of the command line, the program's name left out, say, and answers a status.
@@ -24,6 +22,8 @@ use std::alloc::Global;
 /// |---|---|
 /// | `compile SRC IMG` | the source is compiled, and its image put; `compiled` is written |
 /// | `run IMG INPUT STEPS` | the image is run on the input, for at most so many steps; the run is written |
+/// | `fault IMG INPUT STEPS FAULTFILE` | the same with the change that the file of a fault says |
+/// | `list IMG` | the windows and aliases that the image lists are written |
 ///
 /// | Status | Comes |
 /// |---|---|
@@ -31,6 +31,7 @@ use std::alloc::Global;
 /// | 2 | the words are no command; the line is `usage` |
 /// | 3 | the source is refused; the line says why |
 /// | 4 | the image is refused; the line says why |
+/// | 5 | the file of a fault is refused; the line says why |
 /// | 6 | the input is refused; the line says why |
 /// | 7 | the shelf failed, or a file that is read is not there; nothing is written |
 /// | 8 | the sink failed; a part of the text may stand |
@@ -44,7 +45,7 @@ pub fn run_tool<H: Shelf, O: Sink>(
     shelf: &mut H,
     out: &mut O,
 ) -> u8
-    ensures statuses { (result ≡ 0) ⊎ (result ≡ 2) ⊎ (result ≡ 3) ⊎ (result ≡ 4) ⊎ (result ≡ 6) ⊎ (result ≡ 7) ⊎ (result ≡ 8) ⊎ (result ≡ 9) }
+    ensures statuses { (result ≡ 0) ⊎ (result ≡ 2) ⊎ IsRefusal result ⊎ (result ≡ 7) ⊎ (result ≡ 8) ⊎ (result ≡ 9) }
 
     // What was promised is done.
     ensures done { result ≡ 0 → IsTrue (H.tells shelf.old) → Done (H.held shelf.old) (H.held shelf.new) (command words.now.items) }
@@ -54,7 +55,7 @@ pub fn run_tool<H: Shelf, O: Sink>(
     // Each refusal has its cause, and each cause its refusal, unless the outside or memory fails.
     ensures usage { result ≡ 2 → command words.now.items ≡ None }
     ensures no_command { command words.now.items ≡ None → (result ≡ 2) ⊎ (result ≡ 8) }
-    ensures refused { (result ≡ 3) ⊎ (result ≡ 4) ⊎ (result ≡ 6) → IsTrue (H.tells shelf.old) →
+    ensures refused { IsRefusal result → IsTrue (H.tells shelf.old) →
         (failure : Failure) × (status_of failure ≡ result) × Refuses (H.held shelf.old) (command words.now.items) failure }
     ensures refuses { (failure : Failure) → IsTrue (H.tells shelf.old) → Refuses (H.held shelf.old) (command words.now.items) failure →
         (result ≡ status_of failure) ⊎ (result ≡ 7) ⊎ (result ≡ 8) ⊎ (result ≡ 9) }
@@ -65,64 +66,34 @@ pub fn run_tool<H: Shelf, O: Sink>(
     // What stands on the shelf.
     ensures others { IsTrue (H.tells shelf.old) → (name : List ℕ) → (Puts (command words.now.items) name → ⊥) →
         H.held shelf.new name ≡ H.held shelf.old name }
-    ensures nothing_put { (result ≡ 2) ⊎ (result ≡ 3) ⊎ (result ≡ 4) ⊎ (result ≡ 6) ⊎ (result ≡ 9) → IsTrue (H.tells shelf.old) →
+    ensures nothing_put { (result ≡ 2) ⊎ IsRefusal result ⊎ (result ≡ 9) → IsTrue (H.tells shelf.old) →
+        SameNames (H.held shelf.old) (H.held shelf.new) }
+    ensures unless_accepted { IsTrue (H.tells shelf.old) → (Accepts (H.held shelf.old) (command words.now.items) → ⊥) →
         SameNames (H.held shelf.old) (H.held shelf.new) }
     ensures put_unless_refused { result ≡ 8 → IsTrue (H.tells shelf.old) → SameNames (H.held shelf.old) (H.held shelf.new) ⊎
         Done (H.held shelf.old) (H.held shelf.new) (command words.now.items) }
 
     // What stands in the sink.
-    ensures said { (result ≡ 0) ⊎ (result ≡ 2) ⊎ (result ≡ 3) ⊎ (result ≡ 4) ⊎ (result ≡ 6) → IsTrue (H.tells shelf.old) → IsTrue (O.tells out.old) →
+    ensures said { (result ≡ 0) ⊎ (result ≡ 2) ⊎ IsRefusal result → IsTrue (H.tells shelf.old) → IsTrue (O.tells out.old) →
         (text : List ℕ) × Says (H.held shelf.old) (command words.now.items) text × (O.written out.new ≡ O.written out.old ++ text) }
     ensures part_said { result ≡ 8 → IsTrue (H.tells shelf.old) → IsTrue (O.tells out.old) →
         (text : List ℕ) × Says (H.held shelf.old) (command words.now.items) text × AppendsPart (O.written out.old) (O.written out.new) text }
     ensures silent { (result ≡ 7) ⊎ (result ≡ 9) → IsTrue (O.tells out.old) → O.written out.new ≡ O.written out.old }
 {
+    status(alloc, words, shelf, out)
+}
+
+// The same, its promises in one.
+fn status<H: Shelf, O: Sink>(alloc: Global, words: &Vec<String>, shelf: &mut H, out: &mut O) -> u8
+    ensures { Leaves (IsTrue (H.tells shelf.old)) (H.held shelf.old) (H.held shelf.new) (Rose (H.faults shelf.old) (H.faults shelf.new))
+        (IsTrue (O.tells out.old)) (O.written out.old) (O.written out.new) (Rose (O.faults out.old) (O.faults out.new))
+        (command words.now.items) result }
+{
     match command_of(words) {
         None => say(out, b"usage\n", USAGE),
-        Some(Command::Compile(words)) => {
-            let work = compile_file(alloc, &words, shelf);
-            tell_compiled(out, work)
-        }
-        Some(Command::Run(words)) => {
-            let work = load(alloc, &words, shelf);
-            tell_run(out, work, words.steps)
-        }
-    }
-}
-
-// Says that a source was compiled, or why it was not.
-fn tell_compiled<O: Sink>(out: &mut O, work: Result<(), Failure>) -> u8
-    ensures ok { OnOk work ((result ≡ 0) ⊎ (result ≡ 8)) }
-    ensures err { IfErr work (λ failure. (result ≡ status_of failure) ⊎ (result ≡ 8)) }
-    ensures err_silent { IfErr work (λ failure. (status_of failure ≡ 7) ⊎ (status_of failure ≡ 9) → result ≡ status_of failure) }
-    ensures fault { result ≡ 8 → Rose (O.faults out.old) (O.faults out.new) }
-    ensures written { OnOk work (result ≡ 0 → IsTrue (O.tells out.old) → O.written out.new ≡ O.written out.old ++ codes "compiled\n") }
-    ensures part { OnOk work (result ≡ 8 → IsTrue (O.tells out.old) → AppendsPart (O.written out.old) (O.written out.new) (codes "compiled\n")) }
-    ensures err_written { IfErr work (λ failure. result ≡ status_of failure → IsTrue (O.tells out.old) → O.written out.new ≡ O.written out.old ++ line_of failure) }
-    ensures err_part { IfErr work (λ failure. result ≡ 8 → IsTrue (O.tells out.old) → AppendsPart (O.written out.old) (O.written out.new) (line_of failure)) }
-{
-    match work {
-        Ok(()) => say(out, b"compiled\n", DONE),
-        Err(failure) => report(out, failure),
-    }
-}
-
-// Runs a machine and writes the run, or why there is none.
-fn tell_run<O: Sink>(out: &mut O, work: Result<Machine, Failure>, steps: u64) -> u8
-    ensures ok { IfOk work (λ machine. (result ≡ 0) ⊎ (result ≡ 8)) }
-    ensures err { IfErr work (λ failure. (result ≡ status_of failure) ⊎ (result ≡ 8)) }
-    ensures err_silent { IfErr work (λ failure. (status_of failure ≡ 7) ⊎ (status_of failure ≡ 9) → result ≡ status_of failure) }
-    ensures fault { result ≡ 8 → Rose (O.faults out.old) (O.faults out.new) }
-    ensures written { IfOk work (λ machine. result ≡ 0 → IsTrue (O.tells out.old) → O.written out.new ≡ O.written out.old ++ shown (run (state_of machine) None steps)) }
-    ensures part { IfOk work (λ machine. result ≡ 8 → IsTrue (O.tells out.old) → AppendsPart (O.written out.old) (O.written out.new) (shown (run (state_of machine) None steps))) }
-    ensures err_written { IfErr work (λ failure. result ≡ status_of failure → IsTrue (O.tells out.old) → O.written out.new ≡ O.written out.old ++ line_of failure) }
-    ensures err_part { IfErr work (λ failure. result ≡ 8 → IsTrue (O.tells out.old) → AppendsPart (O.written out.old) (O.written out.new) (line_of failure)) }
-{
-    match work {
-        Ok(mut machine) => match replay(&mut machine, None, steps, out) {
-            Ok(()) => DONE,
-            Err(_) => SINK_FAULT,
-        },
-        Err(failure) => report(out, failure),
+        Some(Command::Compile(words)) => compile_file(alloc, &words, shelf, out),
+        Some(Command::Run(words)) => run_image(alloc, &words, shelf, out),
+        Some(Command::Fault(words)) => run_changed(alloc, &words, shelf, out),
+        Some(Command::List(words)) => list_pairs(alloc, &words, shelf, out),
     }
 }

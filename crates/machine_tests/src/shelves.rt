@@ -33,7 +33,7 @@ impl Read for Dripping {
             if self.given < self.all {
                 *place = self.given;
                 self.given += 1;
-                count += 1;
+                count = count.saturating_add(1);
             }
         }
         Ok(count)

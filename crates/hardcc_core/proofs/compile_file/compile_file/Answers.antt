@@ -1,8 +1,26 @@
-use Rattle.std.proofs.Common.{◌≡◌, ap, sym, ◌∙◌, Some}
-use Rattle.hardcc_core.proofs.Statuses.{explains_source}
+use Rattle.std.proofs.Common.{sym, subst, List, ℕ, refl}
+use Rattle.std.specs.Prelude.{IsTrue}
+use Rattle.hardcc_core.specs.Commands.{Command, Compile}
+use Rattle.hardcc_core.specs.Compiled.{IsCompiled}
+use Rattle.hardcc_core.specs.Files.{Held}
+use Rattle.hardcc_core.proofs.Reading.{rises}
+use Rattle.hardcc_core.proofs.Calls.{refused_call, put_call, put_moved}
 use Rattle.hardcc_core.proofs.compile_file.compile_file.Goals as goal
 
--- the refusal of the bytes explains the failure
-pub returns-clause-explained : goal.returns-clause-explained
-returns-clause-explained g c = λ told.
-    explains_source (g.H.Shelf.held c.args.shelf.now) c.args.words.now.source.now c.deref.result.now c.in-Err.failure (c.in_ok-bytes.ensures.ok told ∙ ap Some (sym c.deref.ensures.value)) c.in-Err.ensures.explained
+pub returns-in-Err : goal.returns-in-Err
+returns-in-Err g c =
+    refused_call (IsTrue (g.H.Shelf.tells c.args.shelf.now)) (g.H.Shelf.held c.args.shelf.now) _ _ _ (g.O.Sink.written c.args.out.now) (g.O.Sink.written c.report.new.out) _ (Compile c.args.words.now.source.now c.args.words.now.image.now) _
+    c.in-Err.failure c.report.result c.in-Err.ensures.same c.in-Err.ensures.reads c.report.ensures.said c.report.ensures.silent
+
+pub returns-in-Ok : goal.returns-in-Ok
+returns-in-Ok g c =
+    let old : Held = g.H.Shelf.held c.args.shelf.now in
+    let mid : Held = g.H.Shelf.held c.take_compiled.new.shelf in
+    let new : Held = g.H.Shelf.held c.put_and_say.new.shelf in
+    let command : Command = Compile c.args.words.now.source.now c.args.words.now.image.now in
+    let is = c.in-Ok.ensures.reads.ok in
+    put_call (IsTrue (g.H.Shelf.tells c.args.shelf.now)) old new _ _ (g.O.Sink.written c.args.out.now) (g.O.Sink.written c.put_and_say.new.out) _ command c.args.words.now.image.now c.deref.result.now _ c.put_and_say.result
+    (λ t. (((is t).0, (is t).1, (is t).2.0), tt))
+    (λ t put. ((is t).0, (is t).1, (c.deref.result.now, put, subst (λ (to : List ℕ). IsCompiled (is t).0 to) (sym c.deref.ensures.value) (is t).2.1)))
+    refl (λ t. refl)
+    (put_moved _ _ old mid new _ _ _ _ _ _ _ _ _ _ c.in-Ok.ensures.tells c.in-Ok.ensures.same (λ rose. rises _ _ _ c.in-Ok.ensures.count rose) c.put_and_say.ensures)

@@ -1,0 +1,401 @@
+-- What a call leaves, by how its parts went.
+use Rattle.std.proofs.Common.{◌≡◌, ◌≢◌, ℕ, Bool, List, [], ◌∷◌, ◌++◌, arith, refl, sym, ◌∙◌, ap, subst, inl, inr}
+use Rattle.std.specs.Prelude.{◌⊎◌, Option, Some, None, Result, Ok, Err, IsTrue, is_ok, if◌then◌else◌}
+use Rattle.hard_shelf.specs.Outside.{SameNames, AppendsPart}
+use Rattle.hard_shelf.specs.declared.sink.SinkFault.{SinkFault}
+use Rattle.elf_image.proofs.Fields.{no_image}
+use Rattle.hardcc_core.specs.declared.failure.Failure.{Failure}
+use Rattle.hardcc_core.specs.declared.failure.Failure.TheVariants.{Source, Image, LargeImage, Fault, LargeFault, Input, LargeInput, Shelf, Memory}
+use Rattle.hardcc_core.specs.Commands.{Command}
+use Rattle.hardcc_core.specs.Failures.{status_of, line_of}
+use Rattle.hardcc_core.specs.Files.{Held, File, SourceFile, ImageFile, InputFile, FaultFile, IsGood, IsBad, BadSource, BadImage, LongImage, BadInput, LongInput, BadFault, LongFault, HoldsGood, HoldsBad, AreGood, LacksOne, HasBad}
+use Rattle.hardcc_core.specs.Outcomes.{files_of, Puts, HasPut, Prints, Says, IsRefusal}
+use Rattle.hardcc_core.specs.Parts.{Reads, Writes, Said, Whole, Part, Leaves, PutsAndSays}
+use Rattle.hardcc_core.proofs.Reading.{same_held}
+use Rattle.hardcc_core.proofs.SmallImage.{not_both}
+
+-- ---- no file is both good and bad, or bad in two ways of different statuses
+
+same_bytes : (x y : List ℕ) (o : Option (List ℕ)) → o ≡ Some x → o ≡ Some y → x ≡ y
+same_bytes x y o e f = let g : Some x ≡ Some y = sym e ∙ f in cc
+
+none_is : (bytes : List ℕ) (o : Option (List ℕ)) → o ≡ None → o ≡ Some bytes → ⊥
+none_is bytes o e f = let g : None ≡ Some bytes = sym e ∙ f in cc
+
+good_not_bad : (bytes : List ℕ) (file : File) (failure : Failure) → IsGood file bytes → IsBad bytes file failure → ⊥
+good_not_bad bytes file failure good (BadSource name r refused) = not_both bytes bytes r refl refused good
+good_not_bad bytes file failure good (BadImage name error short refused) = no_image bytes error (sym refused) good.0 good.1.image
+good_not_bad bytes file failure good (LongImage name long) = omega (arith, good.1.short, long)
+good_not_bad bytes file failure good (BadInput name error short refused) = let e : Ok good.0 ≡ Err error = sym good.1.reads ∙ refused in cc
+good_not_bad bytes file failure good (LongInput name long) = omega (arith, good.1.short, long)
+good_not_bad bytes file failure good (BadFault name error short refused) = let e : Ok good.0 ≡ Err error = sym good.1.reads ∙ refused in cc
+good_not_bad bytes file failure good (LongFault name long) = omega (arith, good.1.short, long)
+
+holds_one : (held : Held) (file : File) (failure : Failure) → HoldsGood held file → HoldsBad held file failure → ⊥
+holds_one held file failure (bytes, is, good) (other, there, bad) =
+    good_not_bad bytes file failure good (subst (λ (b : List ℕ). IsBad b file failure) (same_bytes other bytes _ there is) bad)
+
+-- the status of a file that is refused
+class : File → ℕ
+class (SourceFile name) = 3
+class (ImageFile name) = 4
+class (InputFile name) = 6
+class (FaultFile name) = 5
+
+class_is : (bytes : List ℕ) (file : File) (failure : Failure) → IsBad bytes file failure → status_of failure ≡ class file
+unfolding class
+class_is bytes file failure (BadSource name r refused) = refl
+class_is bytes file failure (BadImage name error short refused) = refl
+class_is bytes file failure (LongImage name long) = refl
+class_is bytes file failure (BadInput name error short refused) = refl
+class_is bytes file failure (LongInput name long) = refl
+class_is bytes file failure (BadFault name error short refused) = refl
+class_is bytes file failure (LongFault name long) = refl
+
+not_both_ways : (held : Held) (files : List File) (failure : Failure) → AreGood held files → HasBad held files failure → ⊥
+not_both_ways held [] failure good bad = bad
+not_both_ways held (file ∷ files) failure good bad =
+    elim bad [ inl here ↦ holds_one held file failure good.0 here | inr later ↦ not_both_ways held files failure good.1 later.1 ]
+
+not_missing : (held : Held) (files : List File) → AreGood held files → LacksOne held files → ⊥
+not_missing held [] good lacks = lacks
+not_missing held (file ∷ files) good lacks =
+    elim lacks [ inl none ↦ none_is good.0.0 _ none good.0.1 | inr later ↦ not_missing held files good.1 later.1 ]
+
+one_status : (held : Held) (files : List File) (f g : Failure) → HasBad held files f → HasBad held files g → status_of f ≡ status_of g
+one_status held [] f g a b = absurd a
+one_status held (file ∷ files) f g a b =
+    elim a [
+      | inl x ↦ elim b [
+        | inl y ↦ class_is x.0 file f x.2 ∙ sym (class_is y.0 file g y.2)
+        | inr y ↦ absurd (holds_one held file f y.0 x)
+      ]
+      | inr x ↦ elim b [
+        | inl y ↦ absurd (holds_one held file g x.0 y)
+        | inr y ↦ one_status held files f g x.1 y.1
+      ]
+    ]
+
+-- a failure is a refusal, or the shelf's, or memory's
+data Sort (failure : Failure) : Type 0 where
+  Refusal_ : IsRefusal (status_of failure) → status_of failure ≢ 7 → status_of failure ≢ 9 → Sort failure
+  Outside : failure ≡ Shelf → Sort failure
+  Wanting : failure ≡ Memory → Sort failure
+
+sort : (failure : Failure) → Sort failure
+sort (Source r) = Refusal_ (inl refl) (λ h. omega (arith, h)) (λ h. omega (arith, h))
+sort (Image error) = Refusal_ (inr (inl refl)) (λ h. omega (arith, h)) (λ h. omega (arith, h))
+sort LargeImage = Refusal_ (inr (inl refl)) (λ h. omega (arith, h)) (λ h. omega (arith, h))
+sort (Fault error) = Refusal_ (inr (inr (inl refl))) (λ h. omega (arith, h)) (λ h. omega (arith, h))
+sort LargeFault = Refusal_ (inr (inr (inl refl))) (λ h. omega (arith, h)) (λ h. omega (arith, h))
+sort (Input error) = Refusal_ (inr (inr (inr refl))) (λ h. omega (arith, h)) (λ h. omega (arith, h))
+sort LargeInput = Refusal_ (inr (inr (inr refl))) (λ h. omega (arith, h)) (λ h. omega (arith, h))
+sort Shelf = Outside refl
+sort Memory = Wanting refl
+
+no_refusal : (s k : ℕ) → IsRefusal s → (k ≡ 0) ⊎ (k ≡ 2) ⊎ (k ≡ 7) ⊎ (k ≡ 8) ⊎ (k ≡ 9) → s ≡ k → ⊥
+no_refusal s k a b e = grind arith
+
+not_silent : (s : ℕ) → IsRefusal s ⊎ (s ≡ 0) ⊎ (s ≡ 8) → (s ≡ 7) ⊎ (s ≡ 9) → ⊥
+not_silent s a b = grind arith
+
+not_good : (s : ℕ) → (s ≡ 7) ⊎ (s ≡ 8) ⊎ (s ≡ 9) → (s ≡ 0) ⊎ (s ≡ 2) ⊎ IsRefusal s → ⊥
+not_good s a b = grind arith
+
+not_nothing : (s : ℕ) → (s ≡ 0) ⊎ (s ≡ 7) ⊎ (s ≡ 8) → (s ≡ 2) ⊎ IsRefusal s ⊎ (s ≡ 9) → ⊥
+not_nothing s a b = grind arith
+
+no_none : (command : Command) → Some command ≡ None → ⊥
+no_none command e = cc
+
+-- ---- a file was not read
+
+-- the line of the refusal was written
+refused_whole : (T : Type 0) (old new : Held) (shelf tells : Type 0) (before after : List ℕ) (sink : Type 0) (command : Command) (failure : Failure) (status : ℕ)
+    → SameNames old new → (T → HasBad old (files_of command) failure) → IsRefusal status → status ≡ status_of failure → (tells → after ≡ before ++ line_of failure)
+    → Leaves T old new shelf tells before after sink (Some command) status
+refused_whole T old new shelf tells before after sink command failure status stays bad is e wrote = record {
+  statuses = inr (inr (inl is));
+  done = λ h t. absurd (no_refusal status 0 is (inl refl) h);
+  complete = λ t good r s. absurd (not_both_ways old (files_of command) failure good (bad t));
+  usage = λ h. absurd (no_refusal status 2 is (inr (inl refl)) h);
+  no_command = λ h. absurd (no_none command h);
+  refused = λ h t. (failure, sym e, bad t);
+  refuses = λ f t b. inl (e ∙ one_status old (files_of command) failure f (bad t) b);
+  shelf_fault = λ h. absurd (no_refusal status 7 is (inr (inr (inl refl))) h);
+  sink_fault = λ h. absurd (no_refusal status 8 is (inr (inr (inr (inl refl)))) h);
+  others = λ t name apart. stays name;
+  nothing_put = λ h t. stays;
+  unless_accepted = λ t not. stays;
+  put_unless_refused = λ h t. inl stays;
+  said = λ h t u. (line_of failure, inl (failure, bad t, refl), wrote u);
+  part_said = λ h t u. absurd (no_refusal status 8 is (inr (inr (inr (inl refl)))) h);
+  silent = λ h u. absurd (not_silent status (inl is) h);
+}
+
+-- a part of it stands
+refused_part : (T : Type 0) (old new : Held) (shelf tells : Type 0) (before after : List ℕ) (sink : Type 0) (command : Command) (failure : Failure) (status : ℕ)
+    → SameNames old new → (T → HasBad old (files_of command) failure) → status ≡ 8 → sink → (tells → AppendsPart before after (line_of failure))
+    → Leaves T old new shelf tells before after sink (Some command) status
+refused_part T old new shelf tells before after sink command failure status stays bad e rose wrote = record {
+  statuses = inr (inr (inr (inr (inl e))));
+  done = λ h t. absurd (omega (arith, e, h));
+  complete = λ t good r s. absurd (s rose);
+  usage = λ h. absurd (omega (arith, e, h));
+  no_command = λ h. absurd (no_none command h);
+  refused = λ h t. absurd (no_refusal status 8 h (inr (inr (inr (inl refl)))) e);
+  refuses = λ f t b. inr (inr (inl e));
+  shelf_fault = λ h. absurd (omega (arith, e, h));
+  sink_fault = λ h. rose;
+  others = λ t name apart. stays name;
+  nothing_put = λ h t. stays;
+  unless_accepted = λ t not. stays;
+  put_unless_refused = λ h t. inl stays;
+  said = λ h t u. absurd (not_good status (inr (inl e)) h);
+  part_said = λ h t u. (line_of failure, inl (failure, bad t, refl), wrote u);
+  silent = λ h u. absurd (not_silent status (inr (inr e)) h);
+}
+
+-- the shelf failed, or a file isn't there
+shelf_failed : (T : Type 0) (old new : Held) (shelf tells : Type 0) (before after : List ℕ) (sink : Type 0) (command : Command) (status : ℕ)
+    → SameNames old new → shelf ⊎ (T × LacksOne old (files_of command)) → status ≡ 7 → (tells → after ≡ before)
+    → Leaves T old new shelf tells before after sink (Some command) status
+shelf_failed T old new shelf tells before after sink command status stays why e quiet = record {
+  statuses = inr (inr (inr (inl e)));
+  done = λ h t. absurd (omega (arith, e, h));
+  complete = λ t good r s. elim why [ inl up ↦ absurd (r up) | inr lacks ↦ absurd (not_missing old (files_of command) good lacks.1) ];
+  usage = λ h. absurd (omega (arith, e, h));
+  no_command = λ h. absurd (no_none command h);
+  refused = λ h t. absurd (no_refusal status 7 h (inr (inr (inl refl))) e);
+  refuses = λ f t b. inr (inl e);
+  shelf_fault = λ h. why;
+  sink_fault = λ h. absurd (omega (arith, e, h));
+  others = λ t name apart. stays name;
+  nothing_put = λ h t. stays;
+  unless_accepted = λ t not. stays;
+  put_unless_refused = λ h t. inl stays;
+  said = λ h t u. absurd (not_good status (inl e) h);
+  part_said = λ h t u. absurd (omega (arith, e, h));
+  silent = λ h u. quiet u;
+}
+
+-- there was no memory
+pub memory_failed : (T : Type 0) (old new : Held) (shelf tells : Type 0) (before after : List ℕ) (sink : Type 0) (command : Command) (status : ℕ)
+    → (T → SameNames old new) → status ≡ 9 → (tells → after ≡ before)
+    → Leaves T old new shelf tells before after sink (Some command) status
+memory_failed T old new shelf tells before after sink command status stays e quiet = record {
+  statuses = inr (inr (inr (inr (inr e))));
+  done = λ h t. absurd (omega (arith, e, h));
+  complete = λ t good r s. inr e;
+  usage = λ h. absurd (omega (arith, e, h));
+  no_command = λ h. absurd (no_none command h);
+  refused = λ h t. absurd (no_refusal status 9 h (inr (inr (inr (inr refl)))) e);
+  refuses = λ f t b. inr (inr (inr e));
+  shelf_fault = λ h. absurd (omega (arith, e, h));
+  sink_fault = λ h. absurd (omega (arith, e, h));
+  others = λ t name apart. stays t name;
+  nothing_put = λ h t. stays t;
+  unless_accepted = λ t not. stays t;
+  put_unless_refused = λ h t. absurd (omega (arith, e, h));
+  said = λ h t u. absurd (not_good status (inr (inr e)) h);
+  part_said = λ h t u. absurd (omega (arith, e, h));
+  silent = λ h u. quiet u;
+}
+
+-- what a report says, by the sort of the failure
+refused_by : {A : Type 0} (T : Type 0) (old new : Held) (shelf tells : Type 0) (before after : List ℕ) (sink : Type 0) (command : Command) (Is : A → Type 0) (failure : Failure) (status : ℕ)
+    → SameNames old new → Reads T old shelf (files_of command) Is (Err failure)
+    → Said tells before after sink (line_of failure) (status_of failure) status
+    → ((status_of failure ≡ 7) ⊎ (status_of failure ≡ 9) → (status ≡ status_of failure) × (tells → after ≡ before))
+    → Sort failure → Leaves T old new shelf tells before after sink (Some command) status
+refused_by T old new shelf tells before after sink command Is failure status stays reads (Whole e wrote) silent (Refusal_ is seven nine) =
+    refused_whole T old new shelf tells before after sink command failure status stays (λ t. reads.explained t seven nine) (subst IsRefusal (sym e) is) e wrote
+refused_by T old new shelf tells before after sink command Is failure status stays reads (Part e rose wrote) silent (Refusal_ is seven nine) =
+    refused_part T old new shelf tells before after sink command failure status stays (λ t. reads.explained t seven nine) e rose wrote
+refused_by T old new shelf tells before after sink command Is failure status stays reads said silent (Outside is) =
+    let seven : status_of failure ≡ 7 = ap status_of is in
+    let quiet = silent (inl seven) in
+    shelf_failed T old new shelf tells before after sink command status stays (reads.shelf (ap Err is)) (quiet.0 ∙ seven) quiet.1
+refused_by T old new shelf tells before after sink command Is failure status stays reads said silent (Wanting is) =
+    let nine : status_of failure ≡ 9 = ap status_of is in
+    let quiet = silent (inr nine) in
+    memory_failed T old new shelf tells before after sink command status (λ t. stays) (quiet.0 ∙ nine) quiet.1
+
+pub refused_call : {A : Type 0} (T : Type 0) (old new : Held) (shelf tells : Type 0) (before after : List ℕ) (sink : Type 0) (command : Command) (Is : A → Type 0) (failure : Failure) (status : ℕ)
+    → SameNames old new → Reads T old shelf (files_of command) Is (Err failure)
+    → Said tells before after sink (line_of failure) (status_of failure) status
+    → ((status_of failure ≡ 7) ⊎ (status_of failure ≡ 9) → (status ≡ status_of failure) × (tells → after ≡ before))
+    → Leaves T old new shelf tells before after sink (Some command) status
+refused_call T old new shelf tells before after sink command Is failure status stays reads said silent =
+    refused_by T old new shelf tells before after sink command Is failure status stays reads said silent (sort failure)
+
+-- ---- all is done
+
+-- the text was written
+done_whole : (T : Type 0) (old new : Held) (shelf tells : Type 0) (before after : List ℕ) (sink : Type 0) (command : Command) (text : List ℕ) (status : ℕ)
+    → (T → AreGood old (files_of command)) → (T → HasPut old new command) → (T → (name : List ℕ) → (Puts (Some command) name → ⊥) → new name ≡ old name)
+    → (T → Prints old command text) → status ≡ 0 → (tells → after ≡ before ++ text)
+    → Leaves T old new shelf tells before after sink (Some command) status
+done_whole T old new shelf tells before after sink command text status good put others prints e wrote = record {
+  statuses = inl e;
+  done = λ h t. (good t, put t);
+  complete = λ t accepted r s. inl e;
+  usage = λ h. absurd (omega (arith, e, h));
+  no_command = λ h. absurd (no_none command h);
+  refused = λ h t. absurd (no_refusal status 0 h (inl refl) e);
+  refuses = λ f t b. absurd (not_both_ways old (files_of command) f (good t) b);
+  shelf_fault = λ h. absurd (omega (arith, e, h));
+  sink_fault = λ h. absurd (omega (arith, e, h));
+  others = others;
+  nothing_put = λ h t. absurd (not_nothing status (inl e) h);
+  unless_accepted = λ t not. absurd (not (good t));
+  put_unless_refused = λ h t. absurd (omega (arith, e, h));
+  said = λ h t u. (text, inr (good t, prints t), wrote u);
+  part_said = λ h t u. absurd (omega (arith, e, h));
+  silent = λ h u. absurd (not_silent status (inr (inl e)) h);
+}
+
+-- a part of it stands
+done_part : (T : Type 0) (old new : Held) (shelf tells : Type 0) (before after : List ℕ) (sink : Type 0) (command : Command) (text : List ℕ) (status : ℕ)
+    → (T → AreGood old (files_of command)) → (T → HasPut old new command) → (T → (name : List ℕ) → (Puts (Some command) name → ⊥) → new name ≡ old name)
+    → (T → Prints old command text) → status ≡ 8 → sink → (tells → AppendsPart before after text)
+    → Leaves T old new shelf tells before after sink (Some command) status
+done_part T old new shelf tells before after sink command text status good put others prints e rose wrote = record {
+  statuses = inr (inr (inr (inr (inl e))));
+  done = λ h t. absurd (omega (arith, e, h));
+  complete = λ t accepted r s. absurd (s rose);
+  usage = λ h. absurd (omega (arith, e, h));
+  no_command = λ h. absurd (no_none command h);
+  refused = λ h t. absurd (no_refusal status 8 h (inr (inr (inr (inl refl)))) e);
+  refuses = λ f t b. inr (inr (inl e));
+  shelf_fault = λ h. absurd (omega (arith, e, h));
+  sink_fault = λ h. rose;
+  others = others;
+  nothing_put = λ h t. absurd (not_nothing status (inr (inr e)) h);
+  unless_accepted = λ t not. absurd (not (good t));
+  put_unless_refused = λ h t. inr (good t, put t);
+  said = λ h t u. absurd (not_good status (inr (inl e)) h);
+  part_said = λ h t u. (text, inr (good t, prints t), wrote u);
+  silent = λ h u. absurd (not_silent status (inr (inr e)) h);
+}
+
+-- where nothing is put, the text of a call that is done
+pub done_call : (T : Type 0) (old new : Held) (shelf tells : Type 0) (before after : List ℕ) (sink : Type 0) (command : Command) (text : List ℕ) (work : Result (Unit {0}) SinkFault) (status : ℕ)
+    → SameNames old new → (T → AreGood old (files_of command)) → (T → HasPut old new command) → (T → Prints old command text)
+    → Writes tells before after sink text work → status ≡ (if is_ok work then 0 else 8)
+    → Leaves T old new shelf tells before after sink (Some command) status
+done_call T old new shelf tells before after sink command text (Ok u) status stays good put prints writes e =
+    done_whole T old new shelf tells before after sink command text status good put (λ t name apart. stays name) prints e writes.ok
+done_call T old new shelf tells before after sink command text (Err f) status stays good put prints writes e =
+    done_part T old new shelf tells before after sink command text status good put (λ t name apart. stays name) prints e writes.fault writes.part
+
+-- the shelf failed at the put
+put_failed : (T : Type 0) (old new : Held) (shelf tells : Type 0) (before after : List ℕ) (sink : Type 0) (command : Command) (status : ℕ)
+    → (T → AreGood old (files_of command)) → (T → (name : List ℕ) → (Puts (Some command) name → ⊥) → new name ≡ old name)
+    → shelf → status ≡ 7 → (tells → after ≡ before)
+    → Leaves T old new shelf tells before after sink (Some command) status
+put_failed T old new shelf tells before after sink command status good others rose e quiet = record {
+  statuses = inr (inr (inr (inl e)));
+  done = λ h t. absurd (omega (arith, e, h));
+  complete = λ t accepted r s. absurd (r rose);
+  usage = λ h. absurd (omega (arith, e, h));
+  no_command = λ h. absurd (no_none command h);
+  refused = λ h t. absurd (no_refusal status 7 h (inr (inr (inl refl))) e);
+  refuses = λ f t b. inr (inl e);
+  shelf_fault = λ h. inl rose;
+  sink_fault = λ h. absurd (omega (arith, e, h));
+  others = others;
+  nothing_put = λ h t. absurd (not_nothing status (inr (inl e)) h);
+  unless_accepted = λ t not. absurd (not (good t));
+  put_unless_refused = λ h t. absurd (omega (arith, e, h));
+  said = λ h t u. absurd (not_good status (inl e) h);
+  part_said = λ h t u. absurd (omega (arith, e, h));
+  silent = λ h u. quiet u;
+}
+
+-- a file was put, and a line written
+pub put_call : (T : Type 0) (old new : Held) (shelf tells : Type 0) (before after : List ℕ) (sink : Type 0) (command : Command) (name file line : List ℕ) (status : ℕ)
+    → (T → AreGood old (files_of command)) → (T → new name ≡ Some file → HasPut old new command) → Puts (Some command) name → (T → Prints old command line)
+    → PutsAndSays T old new shelf tells before after sink name file line status
+    → Leaves T old new shelf tells before after sink (Some command) status
+put_call T old new shelf tells before after sink command name file line status good put is prints p =
+    let others : T → (n : List ℕ) → (Puts (Some command) n → ⊥) → new n ≡ old n =
+    λ t n apart. p.others t n (λ e. apart (subst (λ (m : List ℕ). Puts (Some command) m) (sym e) is)) in
+    elim p.statuses [
+      | inl e ↦ done_whole T old new shelf tells before after sink command line status good (λ t. put t (p.put (inl e) t)) others prints e (p.said e)
+      | inr a ↦ elim a [
+        | inl e ↦ put_failed T old new shelf tells before after sink command status good others (p.shelf e) e (p.silent (inl e))
+        | inr b ↦ elim b [
+          | inl e ↦ done_part T old new shelf tells before after sink command line status good (λ t. put t (p.put (inr e) t)) others prints e (p.sink e) (p.part e)
+          | inr e ↦ memory_failed T old new shelf tells before after sink command status (p.memory e) e (p.silent (inr e))
+        ]
+      ]
+    ]
+
+-- what a put leaves of a shelf that was read before
+pub put_moved : (told now : Bool) (old mid new : Held) (shelf later tells : Type 0) (before after : List ℕ) (sink : Type 0) (name file line : List ℕ) (status : ℕ)
+    → now ≡ told → SameNames old mid → (later → shelf) → PutsAndSays (IsTrue now) mid new later tells before after sink name file line status
+    → PutsAndSays (IsTrue told) old new shelf tells before after sink name file line status
+put_moved told now old mid new shelf later tells before after sink name file line status e stays up p =
+    let a : PutsAndSays (IsTrue told) mid new later tells before after sink name file line status =
+    subst (λ (b : Bool). PutsAndSays (IsTrue b) mid new later tells before after sink name file line status) e p in
+    let b : PutsAndSays (IsTrue told) old new later tells before after sink name file line status =
+    subst (λ (h : Held). PutsAndSays (IsTrue told) h new later tells before after sink name file line status) (same_held old mid stays) a in
+    record {
+      statuses = b.statuses;
+      put = b.put;
+      others = b.others;
+      memory = b.memory;
+      shelf = λ h. up (b.shelf h);
+      sink = b.sink;
+      said = b.said;
+      part = b.part;
+      silent = b.silent;
+    }
+
+-- ---- no command
+
+not_usage : (s : ℕ) → s ≡ 2 → (s ≡ 7) ⊎ (s ≡ 9) → ⊥
+not_usage s a b = grind arith
+
+is_usage : (s : ℕ) → s ≡ 2 → IsRefusal s → ⊥
+is_usage s a b = grind arith
+
+pub no_command : (T : Type 0) (held : Held) (shelf tells : Type 0) (before after : List ℕ) (sink : Type 0) (line : List ℕ) (status : ℕ)
+    → Says held None line → Said tells before after sink line 2 status → Leaves T held held shelf tells before after sink None status
+no_command T held shelf tells before after sink line status says (Whole e wrote) = record {
+  statuses = inr (inl e);
+  done = λ h t. absurd (omega (arith, e, h));
+  complete = λ t accepted r s. absurd accepted;
+  usage = λ h. refl;
+  no_command = λ h. inl e;
+  refused = λ h t. absurd (is_usage status e h);
+  refuses = λ f t b. absurd b;
+  shelf_fault = λ h. absurd (omega (arith, e, h));
+  sink_fault = λ h. absurd (omega (arith, e, h));
+  others = λ t name apart. refl;
+  nothing_put = λ h t name. refl;
+  unless_accepted = λ t not name. refl;
+  put_unless_refused = λ h t. inl (λ name. refl);
+  said = λ h t u. (line, says, wrote u);
+  part_said = λ h t u. absurd (omega (arith, e, h));
+  silent = λ h u. absurd (not_usage status e h);
+}
+no_command T held shelf tells before after sink line status says (Part e rose wrote) = record {
+  statuses = inr (inr (inr (inr (inl e))));
+  done = λ h t. absurd (omega (arith, e, h));
+  complete = λ t accepted r s. absurd accepted;
+  usage = λ h. refl;
+  no_command = λ h. inr e;
+  refused = λ h t. absurd (no_refusal status 8 h (inr (inr (inr (inl refl)))) e);
+  refuses = λ f t b. absurd b;
+  shelf_fault = λ h. absurd (omega (arith, e, h));
+  sink_fault = λ h. rose;
+  others = λ t name apart. refl;
+  nothing_put = λ h t name. refl;
+  unless_accepted = λ t not name. refl;
+  put_unless_refused = λ h t. inl (λ name. refl);
+  said = λ h t u. absurd (not_good status (inr (inl e)) h);
+  part_said = λ h t u. (line, says, wrote u);
+  silent = λ h u. absurd (not_silent status (inr (inr e)) h);
+}

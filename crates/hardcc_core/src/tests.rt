@@ -1,3 +1,0 @@
-//! Tests that cross crates.
-
-mod commands;
