@@ -1,0 +1,13 @@
+pub mod Merges
+pub mod Leading
+pub mod Stretches
+pub mod Beside
+pub mod Parts
+pub mod Turning
+pub mod Blocks
+pub mod Running
+pub mod Calming
+pub mod Counting
+pub mod Segments
+pub mod Taking
+pub mod Law

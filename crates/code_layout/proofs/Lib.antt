@@ -1,0 +1,4 @@
+pub mod Puts
+pub mod Written
+pub mod Counted
+pub mod Built

@@ -1,0 +1,4 @@
+pub mod Graph
+pub mod Signs
+pub mod Search
+pub mod Marks

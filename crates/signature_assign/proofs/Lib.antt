@@ -1,0 +1,17 @@
+pub mod Passes
+pub mod Inside
+pub mod Looks
+pub mod Weight
+pub mod Settles
+pub mod Turns
+pub mod Backward
+pub mod Answering
+pub mod Near
+pub mod Step
+pub mod Head
+pub mod Follow
+pub mod Premises
+pub mod Orderly
+pub mod Fits
+pub mod HeadsKept
+pub mod Signing

@@ -1,0 +1,5 @@
+use Rattle.signature_assign.proofs.HeadsKept as HeadsKept
+use Rattle.signature_assign.proofs.laws.heads_never_report.Goals as goal
+
+pub returns : goal.returns
+returns c = HeadsKept.heads_never_report

@@ -1,0 +1,4 @@
+pub mod Pass
+pub mod Settle
+pub mod Edges
+pub mod Headed
