@@ -176,9 +176,9 @@ module _ (p : HardProgram) (a : Apart p) where
   busy_each : (xs : List Item) → All (λ i. list_any (λ r. not (r == 0)) (touched i.instr) ≡ true) (of_streams xs) → Each Busy xs
   busy_each [] h = tt
   busy_each (x ∷ xs) h = elim (is_stream x.class) as (λ z. is_stream x.class ≡ z → All Touches (cond z (x ∷ of_streams xs) (of_streams xs)) → Each Busy (x ∷ xs)) [
-      | true ↦ λ e g. ((λ k. All-head Touches x (of_streams xs) g), busy_each xs (All-tail Touches x (of_streams xs) g))
-      | false ↦ λ e g. ((λ k. absurd (wrong (is_stream x.class) k e)), busy_each xs g)
-    ] refl h
+    | true ↦ λ e g. ((λ k. All-head Touches x (of_streams xs) g), busy_each xs (All-tail Touches x (of_streams xs) g))
+    | false ↦ λ e g. ((λ k. absurd (wrong (is_stream x.class) k e)), busy_each xs g)
+  ] refl h
     where
       wrong : (z : Bool) → z ≡ true → z ≡ false → ⊥
       wrong z e f = cc
