@@ -1,7 +1,7 @@
 -- The words of the command line, and the commands that they are.
-use Rattle.std.specs.Prelude.{ℕ, ◌&&◌, not, ◌==◌, if◌then◌else◌, Bool, List, [], ◌∷◌, length, Option, Some, None, codes, map, string_bytes}
+use Rattle.std.specs.Prelude.{ℕ, ◌-◌, ◌^◌, nat_le, ◌&&◌, not, ◌==◌, if◌then◌else◌, Bool, List, [], ◌∷◌, length, Option, Some, None, codes, map, string_bytes}
 use Rattle.std.specs.Str.{bytes_eq}
-use Rattle.std.specs.Option.{option_map}
+use Rattle.std.specs.Option.{option_map, option_and_then}
 use Rattle.std.specs.declared.alloc.Global.{Global}
 use Rattle.std.specs.declared.string.String.{String}
 use Rattle.hard_lines.specs.Numbers.{number_up_to}
@@ -12,6 +12,7 @@ pub data Command : Type 0 where
   Run : (image input : List ℕ) (steps : ℕ) → Command
   RunChanged : (image input : List ℕ) (steps : ℕ) (fault : List ℕ) → Command
   ListPairs : (image : List ℕ) → Command
+  Make : (number size : ℕ) (out : List ℕ) → Command
 
 -- A name has at least one byte.
 abbrev pub is_name : List ℕ → Bool
@@ -38,11 +39,21 @@ abbrev pub fault_command : (image input steps fault : List ℕ) → Option Comma
 fault_command image input steps fault =
     if is_name image && (is_name input && is_name fault) then option_map (λ n. RunChanged image input n fault) (steps_of steps) else None
 
+-- A number of functions: from 1 to 1,000.
+abbrev pub size_of : List ℕ → Option ℕ
+size_of word = option_and_then (λ size. if nat_le 1 size then Some size else None) (number_up_to 1000 word)
+
+-- `make NUMBER SIZE OUT`
+abbrev pub make_command : (number size out : List ℕ) → Option Command
+make_command number size out =
+    if is_name out then option_and_then (λ n. option_map (λ s. Make n s out) (size_of size)) (number_up_to (2 ^ 64 - 1) number) else None
+
 -- The command of the words of a command line, if they are the form of one.
 abbrev pub command_of : List (List ℕ) → Option Command
 command_of (word ∷ a ∷ []) = if bytes_eq word (codes "list") then list_command a else None
 command_of (word ∷ a ∷ b ∷ []) = if bytes_eq word (codes "compile") then compile_command a b else None
-command_of (word ∷ a ∷ b ∷ c ∷ []) = if bytes_eq word (codes "run") then run_command a b c else None
+command_of (word ∷ a ∷ b ∷ c ∷ []) =
+    if bytes_eq word (codes "run") then run_command a b c else (if bytes_eq word (codes "make") then make_command a b c else None)
 command_of (word ∷ a ∷ b ∷ c ∷ d ∷ []) = if bytes_eq word (codes "fault") then fault_command a b c d else None
 command_of _ = None
 

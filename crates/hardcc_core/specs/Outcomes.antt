@@ -4,8 +4,9 @@ use Rattle.fault_replay.specs.Show.{shown}
 use Rattle.hard_words.specs.declared.Change.{Change}
 use Rattle.mips_isa.specs.Image.{ImageFields, boot_state}
 use Rattle.mips_isa.specs.Runs.{run}
+use Rattle.program_maker.specs.Text.{made_text}
 use Rattle.hardcc_core.specs.declared.failure.Failure.{Failure}
-use Rattle.hardcc_core.specs.Commands.{Command, Compile, Run, RunChanged, ListPairs}
+use Rattle.hardcc_core.specs.Commands.{Command, Compile, Run, RunChanged, ListPairs, Make}
 use Rattle.hardcc_core.specs.Compiled.{IsCompiled}
 use Rattle.hardcc_core.specs.Failures.{line_of}
 use Rattle.hardcc_core.specs.Files.{Held, Holds, File, SourceFile, ImageFile, InputFile, FaultFile, IsRunnable, IsInput, IsFault, AreGood, LacksOne, HasBad}
@@ -21,6 +22,7 @@ files_of (Compile source image) = SourceFile source ∷ []
 files_of (Run image input steps) = ImageFile image ∷ InputFile input ∷ []
 files_of (RunChanged image input steps fault) = ImageFile image ∷ InputFile input ∷ FaultFile fault ∷ []
 files_of (ListPairs image) = ImageFile image ∷ []
+files_of (Make number size out) = []
 
 -- A file that the command comes to isn't there.
 abbrev pub Misses : Held → Option Command → Type 0
@@ -44,13 +46,15 @@ Puts (Some (Compile source image)) name = name ≡ image
 Puts (Some (Run image input steps)) name = ⊥
 Puts (Some (RunChanged image input steps fault)) name = ⊥
 Puts (Some (ListPairs image)) name = ⊥
+Puts (Some (Make number size out)) name = name ≡ out
 
--- The file that the command puts is what it is to be: an image of the source that the source's name held before.
+-- The file that the command puts is what it is to be: an image of the source that the source's name held before; a made program.
 abbrev pub HasPut : Held → Held → Command → Type 0
 HasPut old new (Compile source image) = Holds old source (λ from. Holds new image (λ to. IsCompiled from to))
 HasPut old new (Run image input steps) = Unit {0}
 HasPut old new (RunChanged image input steps fault) = Unit {0}
 HasPut old new (ListPairs image) = Unit {0}
+HasPut old new (Make number size out) = new out ≡ Some (made_text number size)
 
 -- The command is done: its files were there and good, and what it puts is put.
 abbrev pub Done : Held → Held → Option Command → Type 0
@@ -70,6 +74,7 @@ Prints held (Run image input steps) text = ShowsRun held image input None steps 
 Prints held (RunChanged image input steps fault) text =
     Holds held fault (λ file. (change : Change) × IsFault file change × ShowsRun held image input (Some change) steps text)
 Prints held (ListPairs image) text = Holds held image (λ bytes. (fields : ImageFields) × IsRunnable bytes fields × (text ≡ pair_lines fields))
+Prints held (Make number size out) text = text ≡ codes "made\n"
 
 -- The whole text of the call: the line of the refusal, or else what the command prints; `usage` where the words are no command.
 abbrev pub Says : Held → Option Command → List ℕ → Type 0

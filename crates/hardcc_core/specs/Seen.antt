@@ -8,3 +8,4 @@ seen_command (code.Compile words) = spec.Compile words.source.now words.image.no
 seen_command (code.Run words) = spec.Run words.image.now words.input.now words.steps
 seen_command (code.Fault words) = spec.RunChanged words.image.now words.input.now words.steps words.fault.now
 seen_command (code.List words) = spec.ListPairs words.image.now
+seen_command (code.Make words) = spec.Make words.number words.size words.out.now

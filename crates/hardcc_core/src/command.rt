@@ -1,10 +1,11 @@
 //! The words of the command line.
 
-ghost use Rattle.std.specs.Prelude.{◌≡◌, IsTrue, ◌&&◌};
+ghost use Rattle.std.specs.Prelude.{◌≡◌, ◌≤◌, IfSome};
 ghost use Rattle.std.specs.Option.{option_map};
-ghost use Rattle.hardcc_core.specs.Commands.{command, compile_command, run_command, fault_command, list_command, steps_of};
+ghost use Rattle.hardcc_core.specs.Commands.{command, compile_command, run_command, fault_command, list_command, make_command, size_of, steps_of};
 ghost use Rattle.hardcc_core.specs.Seen.{seen_command};
 
+use crate::make_words::MakeWords;
 use hard_lines::number_up_to;
 
 /// What the words of a command line ask for.
@@ -18,6 +19,8 @@ pub(crate) enum Command<'a> {
     Fault(FaultWords<'a>),
     /// The windows and aliases of an image.
     List(ListWords<'a>),
+    /// A made program.
+    Make(MakeWords<'a>),
 }
 
 /// The words `compile SRC IMG`.
@@ -83,6 +86,8 @@ pub(crate) fn command_of(words: &Vec<String>) -> Option<Command<'_>>
         [word, a, b, c] => {
             if word.as_str() == "run" {
                 run_words(a.as_str(), b.as_str(), c.as_str())
+            } else if word.as_str() == "make" {
+                make_words(a.as_str(), b.as_str(), c.as_str())
             } else {
                 None
             }
@@ -151,6 +156,32 @@ fn fault_words<'a>(
             steps,
             fault,
         })),
+    }
+}
+
+fn make_words<'a>(number: &str, size: &str, out: &'a str) -> Option<Command<'a>>
+    ensures { make_command number.now size.now out.now ≡ option_map seen_command result }
+{
+    if out.is_empty() {
+        return None;
+    }
+    match number_up_to(number.as_bytes(), u64::MAX) {
+        None => None,
+        Some(number) => match size_of(size) {
+            None => None,
+            Some(size) => Some(Command::Make(MakeWords { number, size, out })),
+        },
+    }
+}
+
+// A number of functions.
+fn size_of(word: &str) -> Option<u32>
+    ensures size { result ≡ size_of word.now }
+    ensures bounds { IfSome result (λ size. (1 ≤ size) × (size ≤ 1000)) }
+{
+    match number_up_to(word.as_bytes(), 1000) {
+        None => None,
+        Some(size) => { if size >= 1 { Some(size as u32) } else { None } }
     }
 }
 

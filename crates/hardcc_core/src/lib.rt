@@ -7,6 +7,8 @@ mod compiler;
 mod failure;
 mod laws;
 mod list_file;
+mod make_file;
+mod make_words;
 mod put_file;
 mod refusal_lines;
 mod run_file;

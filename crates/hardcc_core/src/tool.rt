@@ -12,6 +12,7 @@ use crate::command::{Command, command_of};
 use crate::compile_file::compile_file;
 use crate::failure::{USAGE, say};
 use crate::list_file::list_pairs;
+use crate::make_file::make_program;
 use crate::run_file::{run_changed, run_image};
 use hard_shelf::{Shelf, Sink};
 use std::alloc::Global;
@@ -24,6 +25,7 @@ use std::alloc::Global;
 /// | `run IMG INPUT STEPS` | the image is run on the input, for at most so many steps; the run is written |
 /// | `fault IMG INPUT STEPS FAULTFILE` | the same with the change that the file of a fault says |
 /// | `list IMG` | the windows and aliases that the image lists are written |
+/// | `make NUMBER SIZE OUT` | the program of a number, with so many functions, is put; `made` is written |
 ///
 /// | Status | Comes |
 /// |---|---|
@@ -95,5 +97,6 @@ fn status<H: Shelf, O: Sink>(alloc: Global, words: &Vec<String>, shelf: &mut H, 
         Some(Command::Run(words)) => run_image(alloc, &words, shelf, out),
         Some(Command::Fault(words)) => run_changed(alloc, &words, shelf, out),
         Some(Command::List(words)) => list_pairs(alloc, &words, shelf, out),
+        Some(Command::Make(words)) => make_program(alloc, &words, shelf, out),
     }
 }

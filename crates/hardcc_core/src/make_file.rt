@@ -1,0 +1,31 @@
+//! The command that makes a program.
+
+ghost use Rattle.std.specs.Prelude.{Some, IsTrue};
+ghost use Rattle.hard_shelf.specs.Outside.{Rose};
+ghost use Rattle.hardcc_core.specs.Commands.{Make};
+ghost use Rattle.hardcc_core.specs.Parts.{Leaves};
+
+use crate::failure::{Failure, report};
+use crate::make_words::MakeWords;
+use crate::put_file::put_and_say;
+use hard_shelf::{Shelf, Sink};
+use hard_words::OutOfMemory;
+use program_maker::make;
+use std::alloc::Global;
+
+/// The words `make NUMBER SIZE OUT`: the made program is put, and `made` is written.
+pub(crate) fn make_program<H: Shelf, O: Sink>(
+    alloc: Global,
+    words: &MakeWords<'_>,
+    shelf: &mut H,
+    out: &mut O,
+) -> u8
+    ensures { Leaves (IsTrue (H.tells shelf.old)) (H.held shelf.old) (H.held shelf.new) (Rose (H.faults shelf.old) (H.faults shelf.new))
+        (IsTrue (O.tells out.old)) (O.written out.old) (O.written out.new) (Rose (O.faults out.old) (O.faults out.new))
+        (Some (Make words.now.number words.now.size words.now.out.now)) result }
+{
+    match make(alloc, words.number, words.size) {
+        Err(OutOfMemory) => report(out, Failure::Memory),
+        Ok(text) => put_and_say(words.out, &text, b"made\n", shelf, out),
+    }
+}

@@ -1,0 +1,16 @@
+//! The words `make NUMBER SIZE OUT`.
+
+ghost use Rattle.std.specs.Prelude.{◌≤◌};
+
+/// The words `make NUMBER SIZE OUT`.
+#[derive(Drop)]
+pub(crate) struct MakeWords<'a> {
+    /// The number that the program follows from.
+    pub(crate) number: u64,
+    /// How many functions it has beside `main`, 1 to 1,000.
+    pub(crate) size: u32,
+    /// The name of the program, which is put.
+    pub(crate) out: &'a str,
+    ghost least: { 1 ≤ size },
+    ghost most: { size ≤ 1000 },
+}
