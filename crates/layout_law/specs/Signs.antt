@@ -1,4 +1,4 @@
--- The run with heads beside the run of the items. In the project these definitions stand in signature_assign.
+-- The run with heads beside the run of the items.
 use Rattle.std.specs.Prelude.{◌≡◌, ◌<◌, ◌⊎◌, ℕ, Bool, true, false, ◌==◌, ◌||◌, if◌then◌else◌, Some, None, List, [], ◌∷◌, length, slice_get, slice_index, bit_xor}
 use Rattle.hard_words.specs.Observed.{SameObserved}
 use Rattle.hard_words.specs.Stepping.{go, Always}
