@@ -28,7 +28,7 @@ impl Read for Dripping {
         if self.calls == 2 {
             return Err(io::Error::from(ErrorKind::Interrupted));
         }
-        let mut count = 0;
+        let mut count: usize = 0;
         for place in buf.iter_mut().take(3) {
             if self.given < self.all {
                 *place = self.given;
