@@ -1,0 +1,5 @@
+pub mod Fault
+pub mod Scopes
+pub mod Walk
+pub mod Limits
+pub mod Resolution

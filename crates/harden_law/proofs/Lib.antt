@@ -1,0 +1,7 @@
+mod Places
+mod Origin
+mod Goals
+mod Laying
+mod LaidOut
+mod Prepared
+mod Whole
