@@ -50,18 +50,18 @@ pub record ListOk {A : Type 0} (R : Scope → A → A → Type 0) (w : Walking) 
   pub file : FileOk w r.1
   pub same : (F : Scope) → Distinct (onto F []) → Sub r.1.file F → R F a r.0
 
-of_globals : (gs : List GlobalVar) (w : Walking) → AtFile w → Yields (walk_globals gs w) (ListOk SameGlobals w gs)
+pub of_globals : (gs : List GlobalVar) (w : Walking) → AtFile w → Yields (walk_globals gs w) (ListOk SameGlobals w gs)
 of_globals [] w a = yields_ok ([], w) (record { file = record { at_file = a; sub = sub_refl w.file }; same = λ F one sub. globals_none })
 of_globals (g ∷ gs) w a = yields_then (of_global g w a) (λ r1 ok. yields_then (of_globals gs r1.1 ok.file.at_file) (λ r2 rest. yields_ok (r1.0 ∷ r2.0, r2.1) (record {
   file = record { at_file = rest.file.at_file; sub = sub_trans ok.file.sub rest.file.sub };
   same = λ F one sub. globals_also (ok.same F one (sub_trans rest.file.sub sub)) (rest.same F one sub);
 })))
 
-of_item : (has_body_named : ℕ → Bool) (i : TopItem) (w : Walking) → AtFile w → is_shaped_item i ≡ true → Yields (walk_item has_body_named i w) (ListOk SameItem w i)
+pub of_item : (has_body_named : ℕ → Bool) (i : TopItem) (w : Walking) → AtFile w → is_shaped_item i ≡ true → Yields (walk_item has_body_named i w) (ListOk SameItem w i)
 of_item has_body_named (item.Globals gs) w a shaped = yields_then (of_globals gs w a) (λ r ok. yields_ok (item.Globals r.0, r.1) (record { file = ok.file; same = λ F one sub. same_globals (ok.same F one sub) }))
 of_item has_body_named (item.Function f) w a shaped = yields_then (of_function has_body_named f w a shaped) (λ r ok. yields_ok (item.Function r.0, r.1) (record { file = ok.file; same = λ F one sub. same_function (ok.same F one sub) }))
 
-of_items : (has_body_named : ℕ → Bool) (is : List TopItem) (w : Walking) → AtFile w → each is_shaped_item is ≡ true → Yields (walk_items has_body_named is w) (ListOk SameItems w is)
+pub of_items : (has_body_named : ℕ → Bool) (is : List TopItem) (w : Walking) → AtFile w → each is_shaped_item is ≡ true → Yields (walk_items has_body_named is w) (ListOk SameItems w is)
 of_items has_body_named [] w a shaped = yields_ok ([], w) (record { file = record { at_file = a; sub = sub_refl w.file }; same = λ F one sub. items_none })
 of_items has_body_named (i ∷ is) w a shaped =
     let x = and_true (is_shaped_item i) (each is_shaped_item is) shaped in
@@ -74,7 +74,7 @@ of_items has_body_named (i ∷ is) w a shaped =
 
 module _ (F : Scope) (one : Distinct (onto F [])) where
   -- a name is that of an item where its position is that of the item with positions
-  same_test : (n : ℕ) (d : Known) → lookup n F ≡ Some d → (m p : ℕ) (k : Known) → lookup m F ≡ Some k → k.position ≡ p → (m == n) ≡ (p == d.position)
+  pub same_test : (n : ℕ) (d : Known) → lookup n F ≡ Some d → (m p : ℕ) (k : Known) → lookup m F ≡ Some k → k.position ≡ p → (m == n) ≡ (p == d.position)
   same_test n d is m p k js e = at (m == n) (p == d.position) refl refl
     where
       at : (a b : Bool) → (m == n) ≡ a → (p == d.position) ≡ b → (m == n) ≡ (p == d.position)
@@ -117,13 +117,13 @@ module _ (F : Scope) (one : Distinct (onto F [])) where
       at true e t ih = named_some s (eqb-true f.name n (t ∙ (and_true (f'.name == d.position) (has_body f'.body) e).0))
       at false e t ih = ih
 
-  same_returns : {n : ℕ} {o o' : Option Function} → SameNamed n o o' → returns_unsigned o ≡ returns_unsigned o'
+  pub same_returns : {n : ℕ} {o o' : Option Function} → SameNamed n o o' → returns_unsigned o ≡ returns_unsigned o'
   same_returns named_none = refl
   same_returns (named_some s e) = ap is_unsigned_type (sym s.returns)
 
   -- ---- chains of calls
 
-  test_of : (n : ℕ) (d : Known) → lookup n F ≡ Some d → (m p : ℕ) (k : Known) → lookup m F ≡ Some k → k.position ≡ p → (n == m) ≡ (d.position == p)
+  pub test_of : (n : ℕ) (d : Known) → lookup n F ≡ Some d → (m p : ℕ) (k : Known) → lookup m F ≡ Some k → k.position ≡ p → (n == m) ≡ (d.position == p)
   test_of n d is m p k js e = at (n == m) (d.position == p) refl refl
     where
       at : (a b : Bool) → (n == m) ≡ a → (d.position == p) ≡ b → (n == m) ≡ (d.position == p)
@@ -132,24 +132,24 @@ module _ (F : Scope) (one : Distinct (onto F [])) where
       at false true u v = absurd (eqb-false n m u (one_name F [] n d m k one is js (eqb-true d.position p v ∙ sym e)))
       at false false u v = u ∙ sym v
 
-  same_calls : {n : ℕ} {o o' : Option Function} → SameNamed n o o' → Positions (λ m. lookup m F) (calls_of o) (calls_of o')
+  pub same_calls : {n : ℕ} {o o' : Option Function} → SameNamed n o o' → Positions (λ m. lookup m F) (calls_of o) (calls_of o')
   same_calls named_none = no_names
   same_calls (named_some s e) = s.calls
 
-  any_same : (f f' : ℕ → Bool) → ((m : ℕ) (e : Known) → lookup m F ≡ Some e → f m ≡ f' e.position) → {cs cs' : List ℕ} → Positions (λ m. lookup m F) cs cs' → list_any f cs ≡ list_any f' cs'
+  pub any_same : (f f' : ℕ → Bool) → ((m : ℕ) (e : Known) → lookup m F ≡ Some e → f m ≡ f' e.position) → {cs cs' : List ℕ} → Positions (λ m. lookup m F) cs cs' → list_any f cs ≡ list_any f' cs'
   any_same f f' same no_names = refl
   any_same f f' same (a_name {ns = ns} {ps = ps} m e is such rest) = ap (λ b. b || list_any f ns) (same m e is) ∙ ap (λ b. f' e.position || b) (any_same f f' same rest)
 
-  same_leads : {is is' : List TopItem} → SameItems F is is' → (to : ℕ) (e : Known) → lookup to F ≡ Some e → (n : ℕ) (m : ℕ) (d : Known) → lookup m F ≡ Some d → leads is n m to ≡ leads is' n d.position e.position
+  pub same_leads : {is is' : List TopItem} → SameItems F is is' → (to : ℕ) (e : Known) → lookup to F ≡ Some e → (n : ℕ) (m : ℕ) (d : Known) → lookup m F ≡ Some d → leads is n m to ≡ leads is' n d.position e.position
   same_leads same to e js zero m d k = refl
   same_leads {is = is} {is' = is'} same to e js (suc n) m d k = any_same _ _ (λ l f q. ap (λ b. b || leads is n l to) (test_of l f q to e.position e js refl) ∙ ap (λ b. (f.position == e.position) || b) (same_leads same to e js n l f q)) (same_calls (same_named same m d k))
 
-  same_count : {is is' : List TopItem} → SameItems F is is' → length (functions is) ≡ length (functions is')
+  pub same_count : {is is' : List TopItem} → SameItems F is is' → length (functions is) ≡ length (functions is')
   same_count items_none = refl
   same_count (items_also (same_globals s) more) = same_count more
   same_count (items_also (same_function s) more) = ap suc (same_count more)
 
-  same_recursive : {is is' : List TopItem} → SameItems F is is' → (n : ℕ) (d : Known) → lookup n F ≡ Some d → is_recursive is n ≡ is_recursive is' d.position
+  pub same_recursive : {is is' : List TopItem} → SameItems F is is' → (n : ℕ) (d : Known) → lookup n F ≡ Some d → is_recursive is n ≡ is_recursive is' d.position
   same_recursive {is = is} {is' = is'} same n d k = same_leads same n d k (length (functions is)) n d k ∙ ap (λ c. leads is' c d.position d.position) (same_count same)
 
   -- ---- calls
@@ -196,12 +196,12 @@ same_ran F L (Ends end output) (Gives v' s') h = absurd h
 same_ran F L (Ends end output) (Ends end' output') h = let p = h.0 in let q = h.1 in cc
 
 -- the declaration of a function with a body
-record Declared (F : Scope) (n : ℕ) (f : Function) : Type 0 where
-  known : Known
-  is : lookup n F ≡ Some known
-  kind : known.kind ≡ FunctionKind f.ty (param_types f.params)
+pub record Declared (F : Scope) (n : ℕ) (f : Function) : Type 0 where
+  pub known : Known
+  pub is : lookup n F ≡ Some known
+  pub kind : known.kind ≡ FunctionKind f.ty (param_types f.params)
 
-declared_function : (F : Scope) {is is' : List TopItem} → SameItems F is is' → (n : ℕ) (f : Function) → function_named n is ≡ Some f → Declared F n f
+pub declared_function : (F : Scope) {is is' : List TopItem} → SameItems F is is' → (n : ℕ) (f : Function) → function_named n is ≡ Some f → Declared F n f
 declared_function F items_none n f e = absurd cc
 declared_function F (items_also (same_globals s) more) n f e = declared_function F more n f e
 declared_function F (items_also {is = is} (same_function {f = g} s) more) n f e = at (g.name == n && has_body g.body) refl (λ h. declared_function F more n f h)
@@ -216,7 +216,7 @@ declared_function F (items_also {is = is} (same_function {f = g} s) more) n f e 
 main_there : (names : Names) (program : Program) → Yields (within_limits names program) (λ u. is_main (function_named names.main program.items) ≡ true)
 main_there names program = yields_after {m = refuse (first_without_body names program.items) NoBody} (λ first. yields_after {m = require (is_main (function_named names.main program.items)) NoMain 0} (λ main. record { if_ok = λ u is. required (is_main (function_named names.main program.items)) NoMain 0 main }))
 
-first_at_file : AtFile (first_walking source_names)
+pub first_at_file : AtFile (first_walking source_names)
 first_at_file = record {
   sound = record {
     distinct = (((λ e. absurd (omega (arith, e))), tt), (tt, tt));
@@ -227,12 +227,12 @@ first_at_file = record {
 }
 
 -- a main without parameters
-record Main (F : Scope) (o : Option Function) : Type 0 where
-  known : Known
-  is : lookup 0 F ≡ Some known
-  takes : takes_kind 0 known.kind ≡ true
+pub record Main (F : Scope) (o : Option Function) : Type 0 where
+  pub known : Known
+  pub is : lookup 0 F ≡ Some known
+  pub takes : takes_kind 0 known.kind ≡ true
 
-main_of : (F : Scope) {is is' : List TopItem} → SameItems F is is' → (o : Option Function) → function_named 0 is ≡ o → is_main o ≡ true → Main F o
+pub main_of : (F : Scope) {is is' : List TopItem} → SameItems F is is' → (o : Option Function) → function_named 0 is ≡ o → is_main o ≡ true → Main F o
 main_of F same None e is = absurd cc
 main_of F same (Some f) e is =
     let d = declared_function F same 0 f e in
