@@ -1,0 +1,13 @@
+pub mod Bindings
+pub mod Scoping
+pub mod Expressions
+pub mod Statements
+pub mod Functions
+pub mod Renumbered
+pub mod Programs
+pub mod Pruned
+pub mod Labels
+pub mod Seen
+pub mod Fitting
+pub mod Chains
+pub mod Laws
