@@ -2,6 +2,6 @@ mod Places
 mod Origin
 mod Goals
 mod Laying
-mod LaidOut
-mod Prepared
+pub mod LaidOut
+pub mod Prepared
 mod Whole

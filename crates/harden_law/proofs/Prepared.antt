@@ -42,7 +42,7 @@ module _ (S : ℕ → ℕ → Type 0) (n : ℕ) (source_of : (p w : ℕ) → S p
 same_default : (ms : List Mark) (k : ℕ) (d e : Mark) → k < length ms → get_or ms k e ≡ get_or ms k d
 same_default ms k d e h = get_or_from_slice_get ms k (get_or ms k d) e (slice_get-get_or ms k d h)
 
-mark_fits : (s : Signed) → HasSigns s → length s.program.blocks ≤ 65535 → (k : ℕ) (d : Mark) → k < length s.marks → MarkFits (get_or s.marks k d)
+pub mark_fits : (s : Signed) → HasSigns s → length s.program.blocks ≤ 65535 → (k : ℕ) (d : Mark) → k < length s.marks → MarkFits (get_or s.marks k d)
 mark_fits s g few k d h =
     let there : k < length (successors_of s.program) = subst (λ (z : ℕ). k < z) (g.one_each ∙ sym (long_map s.program.blocks)) h in
     let short : length (successors_of s.program) ≤ 65535 = subst (λ (z : ℕ). z ≤ 65535) (sym (long_map s.program.blocks)) few in

@@ -1,0 +1,4 @@
+pub mod Answering
+pub mod Members
+pub mod Pairs
+pub mod Aliasing

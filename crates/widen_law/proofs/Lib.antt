@@ -1,0 +1,12 @@
+pub mod Closes
+pub mod Places
+pub mod Ways
+pub mod WellFormed
+pub mod Far
+pub mod Lists
+pub mod Runs
+pub mod Counts
+pub mod Spans
+pub mod Reach
+pub mod Turns
+pub mod Lays
