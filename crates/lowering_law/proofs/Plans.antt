@@ -117,13 +117,13 @@ module _ (names : Names) (items : List TopItem) where
   abbrev order : List Function
   order = in_number_order names.main items
 
-  first_is : (name : ℕ) (f : Function) → function_named name items ≡ Some f → first_with name bodies ≡ Some f
+  pub first_is : (name : ℕ) (f : Function) → function_named name items ≡ Some f → first_with name bodies ≡ Some f
   first_is name f h = sym (first_body name (functions items)) ∙ h
 
   main_order : (f : Function) → function_named names.main items ≡ Some f → Leads names.main order f
   main_order f h = main_leads names.main bodies (filter (λ g. not (g.name == names.main)) bodies) f (first_is names.main f h)
 
-  number_main : (f : Function) → function_named names.main items ≡ Some f → number_of names items names.main ≡ 0
+  pub number_main : (f : Function) → function_named names.main items ≡ Some f → number_of names items names.main ≡ 0
   number_main f h = let l = main_order f h in ap (number_in names.main) l.is ∙ ap (λ (z : Bool). if z then 0 else suc (number_in names.main l.more)) l.named
 
   first_order : (name : ℕ) (f : Function) → function_named name items ≡ Some f → first_with name order ≡ Some f
@@ -143,7 +143,7 @@ module _ (names : Names) (items : List TopItem) where
 
 -- ---- what is asked of a program
 
-some_recursive : (p : ℕ → Bool) (name : ℕ) (fs : List Function) (f : Function) → first_with name fs ≡ Some f → p name ≡ true → list_any (λ (g : Function). p g.name) fs ≡ true
+pub some_recursive : (p : ℕ → Bool) (name : ℕ) (fs : List Function) (f : Function) → first_with name fs ≡ Some f → p name ≡ true → list_any (λ (g : Function). p g.name) fs ≡ true
 some_recursive p name [] f h r = cc
 some_recursive p name (g ∷ fs) f h r = by (g.name == name) refl (λ e. some_recursive p name fs f e r) h
   where
@@ -222,7 +222,7 @@ module _ (names : Names) (program : Program) (chain_pairs : ℕ) where
   globals_for None = refl
   globals_for (Some f) = refl
 
-  name_is : (name : ℕ) (f : Function) → function_named name items ≡ Some f → f.name ≡ name
+  pub name_is : (name : ℕ) (f : Function) → function_named name items ≡ Some f → f.name ≡ name
   name_is name f h = by (functions items) h
     where
       by : (fs : List Function) → find (λ g. g.name == name && has_body g.body) fs ≡ Some f → f.name ≡ name

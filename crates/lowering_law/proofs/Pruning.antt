@@ -44,7 +44,7 @@ function_mark [] f = refl
 function_mark (bs ∷ marks) zero = refl
 function_mark (bs ∷ marks) (suc f) = function_mark marks f
 
-pruned_at : (marks : List (List Bool)) (i f j : ℕ) (fs : List MidFunction) → i + f ≡ j → slice_get (pruned_from marks i fs) f ≡ option_map (pruned_function marks j) (slice_get fs f)
+pub pruned_at : (marks : List (List Bool)) (i f j : ℕ) (fs : List MidFunction) → i + f ≡ j → slice_get (pruned_from marks i fs) f ≡ option_map (pruned_function marks j) (slice_get fs f)
 pruned_at marks i f j [] e = refl
 pruned_at marks i zero j (code ∷ fs) e = let e' : i ≡ j = omega (arith, e) in ap (λ n. Some (pruned_function marks n code)) e'
 pruned_at marks i (suc f) j (code ∷ fs) e = pruned_at marks (suc i) f j fs (omega (arith, e))

@@ -57,7 +57,7 @@ each_some (Expr-F.Bump up before x at) = bumped (need x.0)
 each_some (Expr-F.Comma x y at) = omega (arith, x.1)
 each_some (Expr-F.Paren x at) = x.1
 
-some_temps : (e : Expr) → 1 ≤ temps e
+pub some_temps : (e : Expr) → 1 ≤ temps e
 unfolding bare
 some_temps = ind-Expr (λ e. 1 ≤ temps e) (λ x y is. subst (λ z. 1 ≤ temps (roll-Expr z)) is (subst (λ (n : Need). 1 ≤ n.temps) (sym (fold-roll-Expr Need need_step (bare y))) (each_some y)))
 

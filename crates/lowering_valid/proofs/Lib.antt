@@ -1,0 +1,13 @@
+pub mod Clean
+pub mod Tidy
+pub mod TidyStatements
+pub mod Aims
+pub mod AimsExpressions
+pub mod AimsStatements
+pub mod Blocks
+pub mod Kept
+pub mod PrunedFunction
+pub mod Declared
+pub mod Functions
+pub mod Lengths
+pub mod Programs
