@@ -1,0 +1,4 @@
+pub mod StartBits
+pub mod Stands
+pub mod CleanRun
+pub mod Answers
