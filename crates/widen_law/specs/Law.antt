@@ -42,4 +42,5 @@ WidenedReaches = (p : HardProgram) (s : Signed) → Apart p → s.program ≡ wi
 -- The far form of a calm program with the marks of its blocks, or with none, can be laid out, if the program can come to no more words
 -- than a text may have.
 abbrev pub WidenedCanBeLaid : Type 0
-WidenedCanBeLaid = (p : HardProgram) (s : Signed) → Apart p → Calm p → length p.blocks ≤ 65535 → s.program ≡ widened p → MarksFit s → room p ≤ 66060288 → Laying s
+WidenedCanBeLaid = (p : HardProgram) (s : Signed) → Apart p → Calm p → length p.blocks ≤ 65535 → s.program ≡ widened p → MarksFit s →
+    room p ≤ 66060288 → Laying s

@@ -1,0 +1,5 @@
+pub mod Folds
+pub mod Steps
+pub mod Adds
+pub mod Output
+pub mod Falls

@@ -1,0 +1,9 @@
+pub mod Standing
+pub mod Stores
+pub mod Views
+pub mod Outcomes
+pub mod Firsts
+pub mod Uses
+pub mod Padding
+pub mod Writes
+pub mod Binds

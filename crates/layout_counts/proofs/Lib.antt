@@ -1,0 +1,5 @@
+pub mod Few
+pub mod Decoded
+pub mod Listed
+pub mod Weights
+pub mod Whole
