@@ -1,0 +1,4 @@
+pub mod Same
+pub mod Hardened
+pub mod Lowered
+pub mod Laws

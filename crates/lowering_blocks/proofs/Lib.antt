@@ -1,0 +1,4 @@
+pub mod Reach
+pub mod Lively
+pub mod Pigeons
+pub mod Cost
