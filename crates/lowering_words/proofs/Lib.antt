@@ -1,0 +1,3 @@
+pub mod Narrow
+pub mod NarrowStatements
+pub mod Programs
