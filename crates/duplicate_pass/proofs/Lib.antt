@@ -1,0 +1,5 @@
+mod Absent
+mod Facts
+pub mod Doubled
+mod Emitted
+mod Parts
