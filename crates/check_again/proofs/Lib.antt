@@ -1,0 +1,9 @@
+mod Placed
+mod Agrees
+mod Sizes
+mod StatementAgain
+mod StatementSizes
+mod ItemAgain
+mod CallSites
+mod LimitAgain
+mod ProgramAgain

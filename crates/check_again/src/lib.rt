@@ -1,0 +1,6 @@
+//! The law that a program whose names are the positions of their declarations has no fault, and that the walk leaves it as it is.
+#![tactic(auto)]
+
+mod laws;
+
+pub use laws::checked_again;

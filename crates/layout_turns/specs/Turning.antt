@@ -1,0 +1,14 @@
+-- The streams take turns in the words of a program with heads, where they do in its items.
+use Rattle.std.specs.Prelude.{◌≡◌, List, length}
+use Rattle.mips_isa.specs.declared.instr.Instr.{Instr}
+use Rattle.mips_isa.specs.Turns as turns
+use Rattle.mips_isa.specs.Turns.{IsTextOf}
+use Rattle.hard_code.specs.declared.code.Signed.{Signed}
+use Rattle.hard_code.specs.Heads.{headed}
+use Rattle.hard_code.specs.Counts.{Turned}
+use Rattle.layout_law.specs.Layout.{text}
+use Rattle.layout_law.specs.Level.{Laying}
+
+-- Of a text whose blocks begin with heads, by the instructions of its words.
+abbrev pub TextTurned : Type 0
+TextTurned = (s : Signed) → Laying s → length s.marks ≡ length s.program.blocks → Turned s.program → (ws : List Instr) → IsTextOf (text (headed s)) ws → turns.Turned ws
