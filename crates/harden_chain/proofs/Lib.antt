@@ -1,0 +1,4 @@
+mod Results
+mod Ordered
+mod Lists
+mod Images

@@ -1,0 +1,31 @@
+-- What becomes of a program of items whose streams are twins: a hardened image.
+use Rattle.std.specs.Prelude.{◌≡◌, ◌≤◌, ◌+◌, ℕ, None, List, length, sum_by}
+use Rattle.hard_words.specs.Observed.{SameObserved}
+use Rattle.hard_words.specs.Words.{AreWords}
+use Rattle.mips_isa.specs.Runs.{observed}
+use Rattle.mips_isa.specs.Image.{ImageFields, boot_state}
+use Rattle.mips_isa.specs.Faults.{Placed, Unreported}
+use Rattle.hard_code.specs.declared.code.HardProgram.{HardProgram}
+use Rattle.hard_code.specs.Run.{item_run}
+use Rattle.hard_code.specs.Counts.{branches, room}
+use Rattle.harden_law.specs.Hardened.{IsHardened}
+use Rattle.image_fits.specs.Law.{HasStarts}
+
+-- The most blocks that a program can come to, one more for each branch.
+abbrev pub most_blocks : HardProgram → ℕ
+most_blocks p = length p.blocks + sum_by (λ b. branches b.items) p.blocks
+
+-- An image of the program: it does the same on every input, it is hardened, and its size is within what the program can come to.
+pub record IsImageOf (p : HardProgram) (i : ImageFields) : Type 0 where
+  pub same : (input : List ℕ) → AreWords input → SameObserved (observed (boot_state i input) None) (item_run p input)
+  pub hardened : IsHardened i
+  pub placed : (input : List ℕ) → AreWords input → Placed i input
+  pub unreported : (input : List ℕ) → AreWords input → Unreported i input
+  pub entry : i.entry ≡ 0x00400000
+  pub initial : i.initial ≡ p.initial
+  pub memory : i.memory_words ≡ p.memory_words
+  pub words : length i.text ≤ room p
+  pub few_windows : length i.windows ≤ length i.text
+  -- its blocks start at some of so many places of the text
+  pub place : ℕ → ℕ
+  pub starts : HasStarts i (most_blocks p) place

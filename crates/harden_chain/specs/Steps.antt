@@ -1,0 +1,55 @@
+-- What stands after the passes over items. These definitions serve private contracts alone.
+use Rattle.std.specs.Prelude.{◌≡◌, ◌≤◌, ◌+◌, ◌*◌, ℕ, List, length, map, sum_by, slice_index}
+use Rattle.hard_code.specs.declared.code.HardProgram.{HardProgram}
+use Rattle.hard_code.specs.declared.code.Signed.{Signed}
+use Rattle.hard_code.specs.Rules.{Apart, Guarded, NeverReports}
+use Rattle.hard_code.specs.Counts.{Calm, branches, room}
+use Rattle.block_laws.specs.Runs.{SameRuns}
+use Rattle.code_layout.specs.Widen.{widened}
+use Rattle.sign_law.specs.Marks.{HasSigns}
+use Rattle.mips_isa.specs.Image.{ImageFields}
+use Rattle.harden_law.specs.Hardened.{IsHardened}
+use Rattle.harden_law.specs.Laws.{RunsAs}
+use Rattle.image_fits.specs.Law.{HasStarts}
+use Rattle.hard_code.specs.Heads.{headed}
+use Rattle.layout_law.specs.Layout.{words, address}
+use Rattle.layout_law.specs.Laws.{Prepared}
+use Rattle.harden_chain.specs.Image.{most_blocks}
+
+-- A program with its checks and in its order.
+pub record IsOrdered (p q : HardProgram) : Type 0 where
+  pub same_runs : SameRuns p q
+  pub apart : Apart q
+  pub guarded : Guarded q
+  pub calm : Calm q
+  pub never_reports : NeverReports q
+  pub blocks : length q.blocks ≡ length p.blocks
+  pub branches_same : sum_by (λ b. branches b.items) q.blocks ≡ sum_by (λ b. branches b.items) p.blocks
+  pub room_within : room q ≤ room p
+  pub initial : q.initial ≡ p.initial
+  pub memory : q.memory_words ≡ p.memory_words
+
+-- A signed program that comes of a program.
+pub record IsSignedOf (p : HardProgram) (s : Signed) : Type 0 where
+  pub prepared : Prepared s
+  pub guarded : Guarded s.program
+  pub same_runs : SameRuns p s.program
+  pub few : length s.program.blocks ≤ most_blocks p
+  pub words_within : words s.program.blocks + 7 * length s.program.blocks ≤ room p
+  pub initial : s.program.initial ≡ p.initial
+  pub memory : s.program.memory_words ≡ p.memory_words
+
+-- Pairs of blocks as pairs of addresses.
+abbrev pub addressed : List ℕ → List (ℕ × ℕ) → List (ℕ × ℕ)
+addressed starts pairs = map (λ p. (slice_index starts p.0, slice_index starts p.1)) pairs
+
+-- An image of a signed program.
+pub record IsImageOfSigned (s : Signed) (i : ImageFields) : Type 0 where
+  pub runs : RunsAs i s
+  pub hardened : IsHardened i
+  pub entry : i.entry ≡ 0x00400000
+  pub initial : i.initial ≡ s.program.initial
+  pub memory : i.memory_words ≡ s.program.memory_words
+  pub words : length i.text ≡ words s.program.blocks + 7 * length s.program.blocks
+  pub few_windows : length i.windows ≤ length i.text
+  pub starts : (n : ℕ) → length s.program.blocks ≤ n → HasStarts i n (address (headed s))

@@ -1,0 +1,112 @@
+//! The image of a signed program.
+
+ghost use Rattle.std.specs.Prelude.{◌≡◌, ◌≤◌, ◌<◌, IfOk, List, All, length};
+ghost use Rattle.mips_isa.specs.Text.{IsText};
+ghost use Rattle.hard_code.specs.Rules.{Guarded, Twin};
+ghost use Rattle.hard_code.specs.Counts.{room};
+ghost use Rattle.block_laws.specs.Counted.{HasNoFreeNop};
+ghost use Rattle.elf_image.specs.Layout.{fields_of};
+ghost use Rattle.window_lister.specs.WindowList.{AreWindows};
+ghost use Rattle.harden_lint.specs.Rules.{WellTyped};
+ghost use Rattle.harden_lint.specs.Rows.{AreRows};
+ghost use Rattle.harden_lint.specs.declared.TypingRow.{TypingRow};
+ghost use Rattle.layout_law.specs.Laws.{Prepared};
+ghost use Rattle.harden_chain.specs.Image.{most_blocks, IsImageOf};
+ghost use Rattle.harden_chain.specs.Steps.{IsImageOfSigned, addressed};
+
+use crate::items::signed;
+use alias_lister::aliases;
+use code_layout::layout;
+use elf_image::{Aliases, Image, Windows};
+use hard_code::{HardProgram, Signed};
+use hard_words::OutOfMemory;
+use harden_law::{words_are_hardened, words_have_ways, words_run_as};
+use harden_lint::{LintError, lint};
+use image_fits::prepared_has_starts;
+use layout_counts::windows_are_few;
+use layout_law::{starts_are_blocks, text_length, words_are_typed};
+use std::alloc::Global;
+use window_lister::windows;
+
+/// The address of the first word of a text.
+const TEXT: u32 = 0x0040_0000;
+
+/// The windows of a text that keeps the rules.
+fn listed(alloc: Global, text: &[u32]) -> Result<Vec<(u32, u8)>, OutOfMemory>
+    requires text { IsText text.now }
+    requires typed { WellTyped text.now 4194304 }
+    ensures windows { IfOk result (λ list. AreWindows text.now list.items) }
+    ensures rows { IfOk result (λ list. (rows : List TypingRow) × AreRows text.now 4194304 rows) }
+{
+    match lint(alloc, text, TEXT) {
+        Ok(typing) => windows(alloc, text, &typing),
+        Err(LintError::OutOfMemory) => Err(OutOfMemory),
+        Err(LintError::BadAt { .. }) => unreachable!(),
+    }
+}
+
+/// Pairs of blocks as pairs of the addresses at which they start.
+fn at_addresses(
+    alloc: Global,
+    starts: &[u32],
+    pairs: &[(u32, u32)],
+) -> Result<Vec<(u32, u32)>, OutOfMemory>
+    requires { All (λ p. (p.0 < length starts.now) × (p.1 < length starts.now)) pairs.now }
+    ensures { IfOk result (λ list. list.items ≡ addressed starts.now pairs.now) }
+{
+    let mut list = Vec::new(alloc);
+    for (from, to) in pairs {
+        list.push((starts[*from as usize], starts[*to as usize]))?;
+    }
+    Ok(list)
+}
+
+/// The image of a signed program: its words, and the lists of its windows and aliases.
+fn image_of(alloc: Global, signed: Signed) -> Result<Image, OutOfMemory>
+    requires prepared { Prepared signed }
+    requires guarded { Guarded signed.program }
+    requires few { length signed.program.blocks ≤ 65535 }
+    ensures { IfOk result (λ image. IsImageOfSigned signed (fields_of image)) }
+{
+    words_are_hardened();
+    words_run_as();
+    words_have_ways();
+    words_are_typed();
+    starts_are_blocks();
+    text_length();
+    windows_are_few();
+    prepared_has_starts();
+    let pairs = aliases(alloc, &signed)?;
+    let laid = layout(alloc, &signed)?;
+    let windows = listed(alloc, laid.text.as_slice())?;
+    let aliases = at_addresses(alloc, laid.starts.as_slice(), pairs.as_slice())?;
+    let HardProgram {
+        initial,
+        memory_words,
+        ..
+    } = signed.program;
+    Ok(Image {
+        entry: TEXT,
+        text: laid.text,
+        initial,
+        memory_words,
+        windows: Windows::from_vec(windows),
+        aliases: Aliases::from_vec(aliases),
+    })
+}
+
+/// The hardened image of a program whose streams are twins.
+///
+/// # Errors
+///
+/// [`OutOfMemory`] where there is no memory.
+pub fn harden(alloc: Global, program: HardProgram) -> Result<Image, OutOfMemory>
+    requires twin { Twin program }
+    requires no_free_nop { HasNoFreeNop program }
+    requires few { most_blocks program ≤ 65535 }
+    requires room { room program ≤ 66060288 }
+    ensures { IfOk result (λ image. IsImageOf program (fields_of image)) }
+{
+    let signed = signed(alloc, program)?;
+    image_of(alloc, signed)
+}
