@@ -10,13 +10,15 @@ use std::io;
 use std::io::{ErrorKind, Read, Write};
 use std::test::Fail;
 
-// A reader that gives the bytes 0, 1, 2 .., 3 of them a call, is interrupted in its second call, and fails in one of a number.
+/// What the reader gives.
+const TWELVE: [u8; 12] = [0, 1, 2, 3, 4, 5, 6, 7, 8, 9, 10, 11];
+
+// A reader that gives twelve bytes, at most 3 of them a call, is interrupted in its second call, and fails in one of a number.
 #[derive(Drop)]
 struct Dripping {
     calls: u32,
     fails_at: u32,
-    given: u8,
-    all: u8,
+    given: usize,
 }
 
 impl Read for Dripping {
@@ -28,14 +30,10 @@ impl Read for Dripping {
         if self.calls == 2 {
             return Err(io::Error::from(ErrorKind::Interrupted));
         }
-        let mut count: usize = 0;
-        for place in buf.iter_mut().take(3) {
-            if self.given < self.all {
-                *place = self.given;
-                self.given += 1;
-                count = count.saturating_add(1);
-            }
-        }
+        let left = &TWELVE[self.given.min(12)..];
+        let count = left.len().min(buf.len()).min(3);
+        buf[..count].copy_from_slice(&left[..count]);
+        self.given = self.given.saturating_add(count);
         Ok(count)
     }
 }
@@ -128,15 +126,11 @@ fn loops_go_on_and_stop(rt: HostRuntime) -> Result<(), Fail> {
             calls: 0,
             fails_at,
             given: 0,
-            all: 12,
         };
         let (mut faults, mut taken) = (0, 0);
         let got = read_all(rt.alloc(), &mut reader, most, &mut faults, &mut taken);
         let right = match got {
-            Ok(bytes) => {
-                want == Ok(bytes.len())
-                    && bytes.as_slice() == [0, 1, 2, 3, 4, 5, 6, 7, 8, 9, 10, 11].as_slice()
-            }
+            Ok(bytes) => { want == Ok(bytes.len()) && bytes.as_slice() == TWELVE.as_slice() }
             Err(error) => want == Err(error),
         };
         let counted = faults == faulty && taken == read;
@@ -159,7 +153,7 @@ fn loops_go_on_and_stop(rt: HostRuntime) -> Result<(), Fail> {
 fn folder_and_output_are_real(rt: HostRuntime) -> Result<(), Fail> {
     let mut shelf = DirShelf::new(&rt);
     let mut bytes = Vec::new(rt.alloc());
-    for at in 0..10_000 {
+    for at in 0..10_000_u32 {
         bytes.push((at % 251) as u8)?;
     }
     let put = shelf.put("machine_tests.bin", &bytes).is_ok();

@@ -1,0 +1,12 @@
+//! Tests of the lint and of the list of windows: texts laid by hand that keep the rules or break one, the windows of two of them, and
+//! faults in their runs. They hold what no contract says: which words are which text, and that calls succeed with ample memory.
+#![tactic(auto)]
+
+#[cfg(test)]
+mod faults;
+#[cfg(test)]
+mod refusals;
+#[cfg(test)]
+mod texts;
+#[cfg(test)]
+mod windows;

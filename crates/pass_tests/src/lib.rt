@@ -1,0 +1,6 @@
+//! Tests of the passes of the back end: where the variables of a function are live, and where they stand. They hold what no contract
+//! says: values counted by hand, and that calls succeed with ample memory.
+#![tactic(auto)]
+
+#[cfg(test)]
+mod places;
