@@ -1,0 +1,43 @@
+-- What becomes of a program in blocks: a hardened image that does the same.
+use Rattle.std.specs.Prelude.{◌≡◌, ◌≤◌, ◌<◌, ℕ, ◌+◌, ◌*◌, None, List, length, slice_get, Some}
+use Rattle.hard_words.specs.Observed.{SameObserved}
+use Rattle.hard_words.specs.Words.{AreWords}
+use Rattle.mips_isa.specs.Runs.{observed}
+use Rattle.mips_isa.specs.Image.{ImageFields, boot_state}
+use Rattle.mips_isa.specs.Faults.{Placed, Unreported}
+use Rattle.mid_code.specs.declared.code.Mid.{Mid}
+use Rattle.mid_code.specs.declared.code.MidFunction.{MidFunction}
+use Rattle.mid_code.specs.declared.places.Places.{Places}
+use Rattle.mid_code.specs.Liveness.{PlacesFit}
+use Rattle.mid_code.specs.Valid.{Valid}
+use Rattle.mid_code.specs.Bounds.{Shallow, Proper}
+use Rattle.mid_code.specs.Size.{words, block_count, branch_count}
+use Rattle.frame_plan.specs.Frames.{cells}
+use Rattle.double_law.specs.Law.{HasWords}
+use Rattle.double_law.specs.Runs.{blocks_seen}
+use Rattle.harden_law.specs.Hardened.{IsHardened}
+use Rattle.elf_image.specs.Bounds.{Fits}
+
+-- What is asked of a program in blocks: it is valid, its calls have room, it reads only what was written, its numbers are words, and it
+-- comes to at most 62,914,560 words and 16,000 blocks, one more for each branch and two for the whole.
+pub record IsReady (mid : Mid) : Type 0 where
+  pub valid : Valid mid
+  pub shallow : Shallow mid
+  pub proper : Proper mid
+  pub has_words : HasWords mid
+  pub few_words : words mid ≤ 62914560
+  pub few_blocks : block_count mid + branch_count mid + 2 ≤ 16000
+
+-- The image does on every input what the program in blocks does; it is hardened, and fits a file.
+pub record IsImageOfBlocks (mid : Mid) (image : ImageFields) : Type 0 where
+  pub same : (input : List ℕ) → AreWords input → SameObserved (observed (boot_state image input) None) (blocks_seen mid input)
+  pub hardened : IsHardened image
+  pub placed : (input : List ℕ) → AreWords input → Placed image input
+  pub unreported : (input : List ℕ) → AreWords input → Unreported image input
+  pub fits : Fits image
+  pub words : length image.text ≤ words mid
+  pub memory : image.memory_words ≡ 2 * cells mid
+
+-- The places of the first functions of a program, on the way there. It serves a private contract alone.
+abbrev pub FitTo : Mid → ℕ → List Places → Type 0
+FitTo mid k places = (n : ℕ) (f : MidFunction) → n < k → slice_get mid.functions n ≡ Some f → (at : Places) × (slice_get places n ≡ Some at) × PlacesFit f at
