@@ -29,7 +29,7 @@ use Rattle.check_again.proofs.Placed.{placed, again, Apart, found_again}
 use Rattle.check_again.proofs.ItemAgain.{Pairs, no_pair, a_pair, LikeFunction, LikeItem, items_again}
 use Rattle.check_again.proofs.CallSites.{bodies_named, all_pass, none_fails}
 use Rattle.check_again.proofs.LimitAgain.{map_pairs, filter_pairs, find_pairs, shaped_again, nodes_again, same_weight, cost_again, pairs_again, bodies_again, defines_same, has_body_same, bodies_same, each_same, main_same, whole_chain_same, reaches_same, recursive_same, calls_same}
-use Rattle.check_again.specs.Again.{CheckedAgain}
+use Rattle.check_again.specs.Again.{CheckedAgain, NodesStay}
 
 -- ---- what holds where no limit is passed
 
@@ -203,3 +203,18 @@ whole program shaped few r is limits =
 
 pub again_checked : CheckedAgain
 again_checked program c shaped few is = (yields_then {m = walk_program source_names program} {P = λ r. walk_program source_names program ≡ Ok r} {Q = IsChecked} (record { if_ok = λ r h. h }) (λ r h. yields_after {m = within_limits source_names program} (λ limits. yields_ok _ (whole program shaped few r h ((within source_names program).if_ok tt limits))))).if_ok c is
+
+-- ---- as many nodes
+
+as_many : (program : Program) → Shaped program → (r : List TopItem × Walking) → walk_program source_names program ≡ Ok r → program_nodes (record { items = r.0 }) ≡ program_nodes program
+as_many program shaped r is =
+    let ok : ListOk SameItems (first_walking source_names) program.items r = (of_items (has_body_in program.items) program.items (first_walking source_names) first_at_file shaped).if_ok r is in
+    let F : Scope = (r.1).file in
+    let one : Distinct (onto F []) = file_distinct r.1 ok.file.at_file.sound in
+    let same : SameItems F program.items r.0 = ok.same F one (sub_refl F) in
+    let calls : (n : ℕ) (d : Known) → lookup n F ≡ Some d → call_cost r.0 d.position ≡ call_cost program.items n = λ n d k. ap (λ b. if b then 1 else 0) (defines_same F one same n d k) in
+    let more = (items_again F program.items r.0 calls (has_body_in program.items) (has_body_in r.0) (has_body_same F one same) program.items (first_walking source_names) refl first_apart).if_ok r is in
+    nodes_again F program.items r.0 (more.like (sub_refl F))
+
+pub nodes_kept : NodesStay
+nodes_kept program c shaped is = (yields_then {m = walk_program source_names program} {P = λ r. walk_program source_names program ≡ Ok r} {Q = λ d. program_nodes d.program ≡ program_nodes program} (record { if_ok = λ r h. h }) (λ r h. yields_after {m = within_limits source_names program} (λ limits. yields_ok _ (as_many program shaped r h)))).if_ok c is

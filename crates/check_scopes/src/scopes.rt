@@ -1,36 +1,48 @@
 //! Scopes of names (ISO/IEC 9899:1999, 6.2.1).
 
-ghost use Rattle.std.specs.Prelude.{◌≡◌, ◌<◌, ◌^◌, reverse, map, length, IfOk, IfErr, OnOk};
+ghost use Rattle.std.specs.Prelude.{◌≡◌, ◌<◌, ◌^◌, reverse, length, IfOk, IfErr, OnOk};
 ghost use Rattle.std.specs.Option.{option_copied};
 ghost use Rattle.check_rules.specs.declared.names.Kind.TheVariants.{Function};
-ghost use Rattle.check_rules.specs.Scopes.{in_force, lookup, is_new, opened, closed, enter_block, enter_file, begun, ended, with_body_of};
+ghost use Rattle.check_rules.specs.Scopes.{in_force, lookup, innermost_known, is_new, opened, closed, enter_block, enter_file, begun, ended, with_body_of};
 ghost use Rattle.c_tree.specs.Meaning.{source_names};
 ghost use Rattle.check_rules.specs.Walk.{is_among, first_walking};
 ghost use Rattle.check_rules.specs.declared.error.CheckError.TheVariants.{OutOfMemory};
-ghost use Rattle.check_scopes.specs.Lookup.{lookup_last, innermost_last, named_in_file, declared};
+ghost use Rattle.check_scopes.specs.Lookup.{named_in_file, declared};
+ghost use Rattle.check_scopes.specs.Pending.{array_of};
 
+use crate::pending::{Pending, all_completed};
+use crate::scope::Scope;
 use c_tree::Ty;
 use check_rules::{Binding, CheckError, Decl, Kind, Known};
 use sqlite_items::Items;
 use std::alloc::Global;
+use std::collections::BTreeSet;
 use std::marker::Model;
 
 /// How far the walk has come. In each list the newest stands last.
 #[derive(Drop)]
 pub struct Scopes {
-    file: Items<Binding>,
-    blocks: Items<Items<Binding>>,
-    decls: Items<Decl>,
+    file: Scope,
+    blocks: Items<Scope>,
+    decls: Items<Pending>,
     bodies: Items<u32>,
+    /// The same names as a set.
+    names: BTreeSet<u32>,
 }
 
 impl Model for Scopes {
-    ghost use Rattle.std.specs.Prelude.{reverse, map};
+    ghost use Rattle.std.specs.Prelude.{◌≡◌, ℕ, map, reverse};
+    ghost use Rattle.std.specs.BTreeSet.{contains};
+    ghost use Rattle.std.specs.Ordering.{nat_cmp};
     ghost use Rattle.check_rules.specs.Scopes.{Walking};
+    ghost use Rattle.check_rules.specs.Walk.{is_among};
+    ghost use Rattle.check_scopes.specs.Pending.{whole};
 
     ghost Value = { Walking };
 
-    ghost view = { λ s. record { file = reverse s.file; blocks = reverse (map reverse s.blocks); decls = s.decls; bodies = s.bodies } };
+    ghost view = { λ s. record { file = s.file; blocks = reverse s.blocks; decls = map whole s.decls; bodies = s.bodies } };
+
+    ghost invariant = { λ s. (n : ℕ) → contains nat_cmp s.names n ≡ is_among n s.bodies };
 }
 
 fn function_binding(name: u32, position: u32, ty: Ty, params: Items<Ty>) -> Binding
@@ -45,26 +57,13 @@ fn function_binding(name: u32, position: u32, ty: Ty, params: Items<Ty>) -> Bind
     }
 }
 
-fn find(scope: &[Binding], name: u32) -> Option<&Known>
-    ensures { option_copied result ≡ lookup_last name scope.now }
-{
-    let mut left = scope.len();
-    while left > 0 {
-        left -= 1;
-        if scope[left].name == name {
-            return Some(&scope[left].known);
-        }
-    }
-    None
-}
-
-fn find_block(scopes: &[Items<Binding>], name: u32) -> Option<&Known>
-    ensures { option_copied result ≡ innermost_last name scopes.now }
+fn find_block(scopes: &[Scope], name: u32) -> Option<&Known>
+    ensures { option_copied result ≡ innermost_known name (reverse scopes.now) }
 {
     let mut left = scopes.len();
     while left > 0 {
         left -= 1;
-        if let Some(known) = find(scopes[left].as_slice(), name) {
+        if let Some(known) = scopes[left].find(name) {
             return Some(known);
         }
     }
@@ -79,28 +78,33 @@ impl Scopes {
     {
         let mut params = Items::new(alloc);
         params.push(Ty::Int)?;
-        let mut file = Items::new(alloc);
-        file.push(function_binding(1, 0, Ty::Int, Items::new(alloc)))?;
-        file.push(function_binding(2, 1, Ty::Void, params))?;
+        let mut file = Scope::new(alloc);
+        file.add(function_binding(1, 0, Ty::Int, Items::new(alloc)))?;
+        file.add(function_binding(2, 1, Ty::Void, params))?;
         let mut decls = Items::new(alloc);
-        decls.push(Decl::InWord)?;
-        decls.push(Decl::OutWord)?;
+        decls.push(Pending::Whole(Decl::InWord))?;
+        decls.push(Pending::Whole(Decl::OutWord))?;
         let mut bodies = Items::new(alloc);
         bodies.push(1)?;
         bodies.push(2)?;
+        let mut names = BTreeSet::new(alloc);
+        names.insert(1)?;
+        names.insert(2)?;
         Ok(Scopes {
             file,
             blocks: Items::new(alloc),
             decls,
             bodies,
+            names,
         })
     }
 
     /// The declarations, each at its position.
-    pub fn into_decls(self) -> Items<Decl>
-        ensures { result ≡ self.decls }
+    pub fn into_decls(self, alloc: Global) -> Result<Items<Decl>, CheckError>
+        ensures ok { IfOk result (λ decls. decls ≡ self.decls) }
+        ensures err { IfErr result (λ e. e ≡ OutOfMemory) }
     {
-        self.decls
+        all_completed(alloc, self.decls)
     }
 
     /// The declaration in force of a name.
@@ -110,7 +114,7 @@ impl Scopes {
         if let Some(known) = find_block(self.blocks.as_slice(), name) {
             return Some(known);
         }
-        find(self.file.as_slice(), name)
+        self.file.find(name)
     }
 
     /// Whether the innermost scope doesn't have the name.
@@ -120,7 +124,7 @@ impl Scopes {
         let blocks = self.blocks.as_slice();
         match blocks.last() {
             None => true,
-            Some(block) => find(block.as_slice(), name).is_none(),
+            Some(block) => block.find(name).is_none(),
         }
     }
 
@@ -129,7 +133,7 @@ impl Scopes {
         ensures ok { OnOk result (self.new ≡ opened self.old) }
         ensures err { IfErr result (λ e. e ≡ OutOfMemory) }
     {
-        self.blocks.push(Items::new(alloc))?;
+        self.blocks.push(Scope::new(alloc))?;
         Ok(())
     }
 
@@ -155,15 +159,15 @@ impl Scopes {
     {
         let position = self.decls.len() as u32;
         let mut block = match self.blocks.pop() {
-            None => Items::new(alloc),
+            None => Scope::new(alloc),
             Some(block) => block,
         };
-        block.push(Binding {
+        block.add(Binding {
             name,
             known: Known { position, kind },
         })?;
         self.blocks.push(block)?;
-        self.decls.push(decl)?;
+        self.decls.push(Pending::Whole(decl))?;
         Ok(position)
     }
 
@@ -171,7 +175,7 @@ impl Scopes {
     pub fn known_in_file(&self, name: u32) -> Option<&Known>
         ensures { option_copied result ≡ lookup name self.now.file }
     {
-        find(self.file.as_slice(), name)
+        self.file.find(name)
     }
 
     /// A name that comes into force at file scope, and its position.
@@ -182,11 +186,11 @@ impl Scopes {
         ensures err { IfErr result (λ e. e ≡ OutOfMemory) }
     {
         let position = self.decls.len() as u32;
-        self.file.push(Binding {
+        self.file.add(Binding {
             name,
             known: Known { position, kind },
         })?;
-        self.decls.push(decl)?;
+        self.decls.push(Pending::Whole(decl))?;
         Ok(position)
     }
 
@@ -199,7 +203,7 @@ impl Scopes {
         ensures err { IfErr result (λ e. e ≡ OutOfMemory) }
     {
         let position = self.decls.len() as u32;
-        self.file.push(Binding {
+        self.file.add(Binding {
             name,
             known: Known { position, kind },
         })?;
@@ -211,7 +215,27 @@ impl Scopes {
         ensures ok { OnOk result (self.new ≡ declared decl self.old) }
         ensures err { IfErr result (λ e. e ≡ OutOfMemory) }
     {
-        self.decls.push(decl)?;
+        self.decls.push(Pending::Whole(decl))?;
+        Ok(())
+    }
+
+    /// The declaration of the name that came last, an array of so many elements of which the first hold these words.
+    pub fn declare_array(
+        &mut self,
+        ty: Ty,
+        is_const: bool,
+        count: usize,
+        first: Items<u32>,
+    ) -> Result<(), CheckError>
+        ensures ok { OnOk result (self.new ≡ declared (array_of ty is_const count first) self.old) }
+        ensures err { IfErr result (λ e. e ≡ OutOfMemory) }
+    {
+        self.decls.push(Pending::Array {
+            ty,
+            is_const,
+            count,
+            first,
+        })?;
         Ok(())
     }
 
@@ -221,7 +245,7 @@ impl Scopes {
         ensures err { IfErr result (λ e. e ≡ OutOfMemory) }
     {
         let mut blocks = Items::new(alloc);
-        blocks.push(Items::new(alloc))?;
+        blocks.push(Scope::new(alloc))?;
         self.blocks = blocks;
         Ok(())
     }
@@ -237,7 +261,7 @@ impl Scopes {
     pub fn has_come(&self, name: u32) -> bool
         ensures { result ≡ is_among name self.now.bodies }
     {
-        self.bodies.as_slice().iter().any(|n| *n == name)
+        self.names.contains(&name)
     }
 
     /// The body of this name has come.
@@ -246,6 +270,12 @@ impl Scopes {
         ensures err { IfErr result (λ e. e ≡ OutOfMemory) }
     {
         self.bodies.push(name)?;
-        Ok(())
+        match self.names.insert(name) {
+            Ok(_) => Ok(()),
+            Err(_) => {
+                self.bodies.pop();
+                Err(CheckError::OutOfMemory)
+            }
+        }
     }
 }

@@ -1,2 +1,2 @@
-mod Turns
+pub mod Turns
 mod Types

@@ -19,6 +19,7 @@ use Rattle.double_forms.specs.Laws.{CountsFit}
 use Rattle.image_fits.specs.Law.{HardenedFits}
 use Rattle.harden_chain.specs.Image.{most_blocks, IsImageOf}
 use Rattle.compile_blocks.specs.Blocks.{IsReady, IsImageOfBlocks}
+use Rattle.compile_blocks.proofs.Starts.{few_starts}
 
 pub few_blocks : (mid : Mid) (p : HardProgram) → IsReady mid → CountsFit mid p → most_blocks p ≤ 16000
 few_blocks mid p r c = by (length p.blocks) (sum_by (λ b. branches b.items) p.blocks) (block_count mid) (branch_count mid) c.blocks c.branches_same r.few_blocks
@@ -66,6 +67,9 @@ image_of_blocks mid p i r runs c m twin w g fits = record {
   });
   words = within (length i.text) (room p) (words mid) g.words c.room_fits;
   memory = g.memory ∙ m;
+  few_windows = g.few_windows;
+  few_starts = few_starts mid p i g.place c g.starts;
+  no_dead_words = g.no_dead_words;
 }
   where
     by : (a b c : ℕ) → a ≤ b → b ≤ c → c ≤ 62914560 → a ≤ 62914560

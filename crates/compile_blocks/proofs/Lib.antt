@@ -1,2 +1,3 @@
 mod Fitted
+mod Starts
 mod Composed

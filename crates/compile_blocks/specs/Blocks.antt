@@ -1,10 +1,11 @@
 -- What becomes of a program in blocks: a hardened image that does the same.
-use Rattle.std.specs.Prelude.{◌≡◌, ◌≤◌, ◌<◌, ℕ, ◌+◌, ◌*◌, None, List, length, slice_get, Some}
+use Rattle.std.specs.Prelude.{◌≡◌, ◌≤◌, ◌<◌, ℕ, ◌+◌, ◌*◌, None, List, length, Contains, slice_get, Some}
 use Rattle.hard_words.specs.Observed.{SameObserved}
 use Rattle.hard_words.specs.Words.{AreWords}
 use Rattle.mips_isa.specs.Runs.{observed}
 use Rattle.mips_isa.specs.Image.{ImageFields, boot_state}
 use Rattle.mips_isa.specs.Faults.{Placed, Unreported}
+use Rattle.mips_isa.specs.Blocks.{IsStart}
 use Rattle.mid_code.specs.declared.code.Mid.{Mid}
 use Rattle.mid_code.specs.declared.code.MidFunction.{MidFunction}
 use Rattle.mid_code.specs.declared.places.Places.{Places}
@@ -15,6 +16,7 @@ use Rattle.mid_code.specs.Size.{words, block_count, branch_count}
 use Rattle.frame_plan.specs.Frames.{cells}
 use Rattle.double_law.specs.Law.{HasWords}
 use Rattle.double_law.specs.Runs.{blocks_seen}
+use Rattle.reached_words.specs.Reached.{NoDeadWords}
 use Rattle.harden_law.specs.Hardened.{IsHardened}
 use Rattle.elf_image.specs.Bounds.{Fits}
 
@@ -28,6 +30,12 @@ pub record IsReady (mid : Mid) : Type 0 where
   pub few_words : words mid ≤ 62914560
   pub few_blocks : block_count mid + branch_count mid + 2 ≤ 16000
 
+-- At most n addresses are starts of blocks of a text: each start stands in a list of so many.
+pub record HasFewStarts (text : List ℕ) (entry n : ℕ) : Type 0 where
+  pub list : List ℕ
+  pub few : length list ≤ n
+  pub all : (w : ℕ) → IsStart text entry w → Contains list w
+
 -- The image does on every input what the program in blocks does; it is hardened, and fits a file.
 pub record IsImageOfBlocks (mid : Mid) (image : ImageFields) : Type 0 where
   pub same : (input : List ℕ) → AreWords input → SameObserved (observed (boot_state image input) None) (blocks_seen mid input)
@@ -37,6 +45,12 @@ pub record IsImageOfBlocks (mid : Mid) (image : ImageFields) : Type 0 where
   pub fits : Fits image
   pub words : length image.text ≤ words mid
   pub memory : image.memory_words ≡ 2 * cells mid
+  -- there are at most as many windows as words,
+  pub few_windows : length image.windows ≤ length image.text
+  -- at most so many addresses at which a block starts as the program has blocks, with one more for each branch and two for the whole,
+  pub few_starts : HasFewStarts image.text image.entry (block_count mid + branch_count mid + 2)
+  -- and each word that neither begins a block nor is a break has a word before it
+  pub no_dead_words : NoDeadWords image.text image.entry
 
 -- The places of the first functions of a program, on the way there. It serves a private contract alone.
 abbrev pub FitTo : Mid → ℕ → List Places → Type 0

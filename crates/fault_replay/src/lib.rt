@@ -5,5 +5,5 @@
 mod line;
 mod showing;
 
-pub use line::{Line, put, put_address, put_number};
+pub use line::{Line, end_line, put, put_address, put_number, word_line};
 pub use showing::replay;

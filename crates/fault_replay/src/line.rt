@@ -15,7 +15,7 @@ pub type Line = ArrayVec<u8, 128>;
 
 /// The line of a word that was put out.
 #[tactic(auto, unfolding(crate::specs::Show::word_line))]
-pub(crate) fn word_line(word: u32) -> Line
+pub fn word_line(word: u32) -> Line
     ensures { result.items ≡ word_line word }
 {
     let mut line = ArrayVec::new();
@@ -26,7 +26,7 @@ pub(crate) fn word_line(word: u32) -> Line
 
 /// The line of how a run stands.
 #[tactic(auto, unfolding(crate::specs::Show::end_line))]
-pub(crate) fn end_line(end: Option<End>) -> Line
+pub fn end_line(end: Option<End>) -> Line
     ensures { result.items ≡ end_line end }
 {
     match end {

@@ -1,18 +1,27 @@
 -- What a call leaves, by how its parts went.
 use Rattle.std.proofs.Common.{◌≡◌, ◌≢◌, ℕ, Bool, List, [], ◌∷◌, ◌++◌, arith, refl, sym, ◌∙◌, ap, subst, inl, inr}
-use Rattle.std.specs.Prelude.{◌⊎◌, Option, Some, None, Result, Ok, Err, IsTrue, is_ok, if◌then◌else◌}
-use Rattle.hard_shelf.specs.Outside.{SameNames, AppendsPart}
+use Rattle.std.specs.Prelude.{◌⊎◌, Option, Some, None, Result, Ok, Err, IsTrue, IsErrOf, OnOk, OnErr, is_ok, if◌then◌else◌}
+use Rattle.hard_shelf.specs.Outside.{SameNames, SameOthers, AppendsPart}
 use Rattle.hard_shelf.specs.declared.sink.SinkFault.{SinkFault}
-use Rattle.elf_image.proofs.Fields.{no_image}
+use Rattle.eval_lines.specs.declared.show.ShowError.{ShowError}
+use Rattle.eval_lines.specs.declared.show.ShowError.TheVariants as shows
+use Rattle.elf_image.specs.Held.{IsImage}
+use Rattle.elf_image.proofs.Fields.{no_image, one_image}
+use Rattle.hard_lines.specs.Inputs.{inputs}
+use Rattle.mips_isa.specs.Image.{ImageFields}
+use Rattle.run_audit.specs.declared.error.AuditError.{AuditError}
+use Rattle.run_audit.specs.declared.error.AuditError.TheVariants as audits
+use Rattle.run_audit.proofs.Answers.{never_both}
+use Rattle.audit_lines.specs.AuditLines.{no_line}
 use Rattle.hardcc_core.specs.declared.failure.Failure.{Failure}
 use Rattle.hardcc_core.specs.declared.failure.Failure.TheVariants.{Source, Image, LargeImage, Fault, LargeFault, Input, LargeInput, Shelf, Memory}
-use Rattle.hardcc_core.specs.Commands.{Command}
-use Rattle.hardcc_core.specs.Failures.{status_of, line_of}
-use Rattle.hardcc_core.specs.Files.{Held, File, SourceFile, ImageFile, InputFile, FaultFile, IsGood, IsBad, BadSource, BadImage, LongImage, BadInput, LongInput, BadFault, LongFault, HoldsGood, HoldsBad, AreGood, LacksOne, HasBad}
-use Rattle.hardcc_core.specs.Outcomes.{files_of, Puts, HasPut, Prints, Says, IsRefusal}
+use Rattle.hardcc_core.specs.Commands.{Command, Compile, Run, RunChanged, Audit, Campaign, ListPairs, Make, Eval, SelfRun}
+use Rattle.hardcc_core.specs.Failures.{status_of, line_of, audit_status, run_status}
+use Rattle.hardcc_core.specs.Files.{Held, File, SourceFile, ImageFile, InputFile, FaultFile, MadeFile, IsGood, IsBad, BadSource, BadImage, LongImage, BadInput, LongInput, BadFault, LongFault, BadMade, Holds, HoldsGood, HoldsBad, HoldsRun, IsRunnable, IsInput, AreGood, LacksOne, HasBad}
+use Rattle.hardcc_core.specs.Outcomes.{files_of, Accepts, PassesAudit, FailsAudit, Audited, TellsAudit, Puts, HasPut, Prints, Says, IsRefusal}
 use Rattle.hardcc_core.specs.Parts.{Reads, Writes, Said, Whole, Part, Leaves, PutsAndSays}
 use Rattle.hardcc_core.proofs.Reading.{same_held}
-use Rattle.hardcc_core.proofs.SmallImage.{not_both}
+use Rattle.compile_chain.proofs.Sources.{not_both}
 
 -- ---- no file is both good and bad, or bad in two ways of different statuses
 
@@ -30,6 +39,7 @@ good_not_bad bytes file failure good (BadInput name error short refused) = let e
 good_not_bad bytes file failure good (LongInput name long) = omega (arith, good.1.short, long)
 good_not_bad bytes file failure good (BadFault name error short refused) = let e : Ok good.0 ≡ Err error = sym good.1.reads ∙ refused in cc
 good_not_bad bytes file failure good (LongFault name long) = omega (arith, good.1.short, long)
+good_not_bad bytes file failure good (BadMade number size r refused) = not_both bytes bytes r refl refused good
 
 holds_one : (held : Held) (file : File) (failure : Failure) → HoldsGood held file → HoldsBad held file failure → ⊥
 holds_one held file failure (bytes, is, good) (other, there, bad) =
@@ -41,6 +51,7 @@ class (SourceFile name) = 3
 class (ImageFile name) = 4
 class (InputFile name) = 6
 class (FaultFile name) = 5
+class (MadeFile number size) = 3
 
 class_is : (bytes : List ℕ) (file : File) (failure : Failure) → IsBad bytes file failure → status_of failure ≡ class file
 unfolding class
@@ -51,6 +62,7 @@ class_is bytes file failure (BadInput name error short refused) = refl
 class_is bytes file failure (LongInput name long) = refl
 class_is bytes file failure (BadFault name error short refused) = refl
 class_is bytes file failure (LongFault name long) = refl
+class_is bytes file failure (BadMade number size r refused) = refl
 
 not_both_ways : (held : Held) (files : List File) (failure : Failure) → AreGood held files → HasBad held files failure → ⊥
 not_both_ways held [] failure good bad = bad
@@ -76,6 +88,64 @@ one_status held (file ∷ files) f g a b =
       ]
     ]
 
+-- ---- the run of two files
+
+-- what holds of the fields and numbers that two names hold
+pub run_of : (held : Held) (image input : List ℕ) (P : ImageFields → List ℕ → Type 0) (fields : ImageFields) (numbers : List ℕ)
+    → Holds held image (λ bytes. IsRunnable bytes fields) → Holds held input (λ text. IsInput text numbers) → P fields numbers → HoldsRun held image input P
+run_of held image input P fields numbers x y p = (x.0, x.1, (fields, x.2, (y.0, y.1, (numbers, y.2, p))))
+
+pub run_good : (held : Held) (image input : List ℕ) (P : ImageFields → List ℕ → Type 0) → HoldsRun held image input P → AreGood held (ImageFile image ∷ InputFile input ∷ [])
+run_good held image input P x = ((x.0, x.1, (x.2.0, x.2.1)), ((x.2.2.0, x.2.2.1, (x.2.2.2.0, x.2.2.2.1)), tt))
+
+run_then : (held : Held) (image input : List ℕ) (P Q : ImageFields → List ℕ → Type 0) → ((f : ImageFields) (n : List ℕ) → P f n → Q f n)
+    → HoldsRun held image input P → HoldsRun held image input Q
+run_then held image input P Q g x = (x.0, x.1, (x.2.0, x.2.1, (x.2.2.0, x.2.2.1, (x.2.2.2.0, x.2.2.2.1, g _ _ x.2.2.2.2))))
+
+same_numbers : (a b x y : List ℕ) → a ≡ b → inputs a ≡ Ok x → inputs b ≡ Ok y → x ≡ y
+same_numbers a b x y e f g = let h : Ok x ≡ Ok y = sym f ∙ (ap inputs e ∙ g) in cc
+
+-- two names hold one image and one input
+one_run : (held : Held) (image input : List ℕ) (P Q : ImageFields → List ℕ → Type 0) → HoldsRun held image input P → HoldsRun held image input Q
+    → (f : ImageFields) × (n : List ℕ) × P f n × Q f n
+one_run held image input P Q x y =
+    let b : y.0 ≡ x.0 = same_bytes y.0 x.0 _ y.1 x.1 in
+    let f : y.2.0 ≡ x.2.0 = one_image x.0 y.2.0 x.2.0 (subst (λ (l : List ℕ). IsImage l y.2.0) b y.2.1.image) x.2.1.image in
+    let t : y.2.2.0 ≡ x.2.2.0 = same_bytes y.2.2.0 x.2.2.0 _ y.2.2.1 x.2.2.1 in
+    let n : y.2.2.2.0 ≡ x.2.2.2.0 = same_numbers _ _ _ _ t y.2.2.2.1.reads x.2.2.2.1.reads in
+    (x.2.0, x.2.2.2.0, x.2.2.2.2, subst (λ (i : ImageFields). Q i x.2.2.2.0) f (subst (λ (l : List ℕ). Q y.2.0 l) n y.2.2.2.2))
+
+-- where an audit does not pass, the files were good
+fails_good : (held : Held) (command : Command) (error : AuditError) → FailsAudit held (Some command) error → AreGood held (files_of command)
+fails_good held (Compile source image) error x = absurd x
+fails_good held (Run image input steps) error x = absurd x
+fails_good held (RunChanged image input steps fault) error x = absurd x
+fails_good held (Audit image input steps) error x = run_good held image input _ x
+fails_good held (Campaign image input steps from to) error x = absurd x
+fails_good held (ListPairs image) error x = absurd x
+fails_good held (Make number size out) error x = absurd x
+fails_good held (Eval source input turns) error x = absurd x
+fails_good held (SelfRun number size steps) error x = absurd x
+
+-- no audit passes and does not
+passes_or_fails : (held : Held) (command : Command) (error : AuditError) → PassesAudit held (Some command) → FailsAudit held (Some command) error → ⊥
+passes_or_fails held (Compile source image) error p x = x
+passes_or_fails held (Run image input steps) error p x = x
+passes_or_fails held (RunChanged image input steps fault) error p x = x
+passes_or_fails held (Audit image input steps) error p x =
+    let both = one_run held image input _ _ p x in
+    never_both both.0 both.1 steps both.2.0 error both.2.1 both.3
+passes_or_fails held (Campaign image input steps from to) error p x = x
+passes_or_fails held (ListPairs image) error p x = x
+passes_or_fails held (Make number size out) error p x = x
+passes_or_fails held (Eval source input turns) error p x = x
+passes_or_fails held (SelfRun number size steps) error p x = x
+
+-- the line of an audit that does not pass tells of it
+tells_no : (held : Held) (image input : List ℕ) (steps : ℕ) (error : AuditError) → FailsAudit held (Some (Audit image input steps)) error
+    → HoldsRun held image input (λ fields numbers. TellsAudit fields numbers steps (no_line error))
+tells_no held image input steps error fails = run_then held image input _ _ (λ f n bad. inr (error, bad, refl)) fails
+
 -- a failure is a refusal, or the shelf's, or memory's
 data Sort (failure : Failure) : Type 0 where
   Refusal_ : IsRefusal (status_of failure) → status_of failure ≢ 7 → status_of failure ≢ 9 → Sort failure
@@ -96,14 +166,25 @@ sort Memory = Wanting refl
 no_refusal : (s k : ℕ) → IsRefusal s → (k ≡ 0) ⊎ (k ≡ 2) ⊎ (k ≡ 7) ⊎ (k ≡ 8) ⊎ (k ≡ 9) → s ≡ k → ⊥
 no_refusal s k a b e = grind arith
 
-not_silent : (s : ℕ) → IsRefusal s ⊎ (s ≡ 0) ⊎ (s ≡ 8) → (s ≡ 7) ⊎ (s ≡ 9) → ⊥
-not_silent s a b = grind arith
+not_silent : {X : Type 0} (s : ℕ) → IsRefusal s ⊎ (s ≡ 0) ⊎ (s ≡ 8) → (s ≡ 7) ⊎ ((s ≡ 9) × X) → ⊥
+not_silent s a (inl b) = grind (arith, a, b)
+not_silent s a (inr b) = grind (arith, a, b.0)
 
-not_good : (s : ℕ) → (s ≡ 7) ⊎ (s ≡ 8) ⊎ (s ≡ 9) → (s ≡ 0) ⊎ (s ≡ 2) ⊎ IsRefusal s → ⊥
+not_nine : (s : ℕ) → IsRefusal s ⊎ (s ≡ 0) ⊎ (s ≡ 8) → s ≡ 9 → ⊥
+not_nine s a b = grind arith
+
+not_good : (s : ℕ) → (s ≡ 7) ⊎ (s ≡ 8) ⊎ (s ≡ 9) → (s ≡ 0) ⊎ (s ≡ 2) ⊎ IsRefusal s ⊎ (s ≡ 10) → ⊥
 not_good s a b = grind arith
 
-not_nothing : (s : ℕ) → (s ≡ 0) ⊎ (s ≡ 7) ⊎ (s ≡ 8) → (s ≡ 2) ⊎ IsRefusal s ⊎ (s ≡ 9) → ⊥
+not_nothing : (s : ℕ) → (s ≡ 0) ⊎ (s ≡ 7) ⊎ (s ≡ 8) → (s ≡ 2) ⊎ IsRefusal s ⊎ (s ≡ 9) ⊎ (s ≡ 10) → ⊥
 not_nothing s a b = grind arith
+
+not_ten : (s : ℕ) → IsRefusal s → s ≡ 10 → ⊥
+not_ten s a b = grind arith
+
+ten_speaks : {X : Type 0} (s : ℕ) → s ≡ 10 → (s ≡ 7) ⊎ ((s ≡ 9) × X) → ⊥
+ten_speaks s a (inl b) = grind (arith, a, b)
+ten_speaks s a (inr b) = grind (arith, a, b.0)
 
 no_none : (command : Command) → Some command ≡ None → ⊥
 no_none command e = cc
@@ -117,11 +198,15 @@ refused_whole : (T : Type 0) (old new : Held) (shelf tells : Type 0) (before aft
 refused_whole T old new shelf tells before after sink command failure status stays bad is e wrote = record {
   statuses = inr (inr (inl is));
   done = λ h t. absurd (no_refusal status 0 is (inl refl) h);
-  complete = λ t good r s. absurd (not_both_ways old (files_of command) failure good (bad t));
+  audited = λ h t. absurd (no_refusal status 0 is (inl refl) h);
+  complete = λ t good r s. absurd (not_both_ways old (files_of command) failure good.0 (bad t));
   usage = λ h. absurd (no_refusal status 2 is (inr (inl refl)) h);
   no_command = λ h. absurd (no_none command h);
   refused = λ h t. (failure, sym e, bad t);
   refuses = λ f t b. inl (e ∙ one_status old (files_of command) failure f (bad t) b);
+  only_audits = λ h. absurd (not_ten status is h);
+  failed_audit = λ h t. absurd (not_ten status is h);
+  fails_audit = λ x t b. absurd (not_both_ways old (files_of command) failure (fails_good old command x b) (bad t));
   shelf_fault = λ h. absurd (no_refusal status 7 is (inr (inr (inl refl))) h);
   sink_fault = λ h. absurd (no_refusal status 8 is (inr (inr (inr (inl refl)))) h);
   others = λ t name apart. stays name;
@@ -131,6 +216,7 @@ refused_whole T old new shelf tells before after sink command failure status sta
   said = λ h t u. (line_of failure, inl (failure, bad t, refl), wrote u);
   part_said = λ h t u. absurd (no_refusal status 8 is (inr (inr (inr (inl refl)))) h);
   silent = λ h u. absurd (not_silent status (inl is) h);
+  begun = λ h t u. absurd (not_nine status (inl is) h);
 }
 
 -- a part of it stands
@@ -140,11 +226,15 @@ refused_part : (T : Type 0) (old new : Held) (shelf tells : Type 0) (before afte
 refused_part T old new shelf tells before after sink command failure status stays bad e rose wrote = record {
   statuses = inr (inr (inr (inr (inl e))));
   done = λ h t. absurd (omega (arith, e, h));
+  audited = λ h t. absurd (omega (arith, e, h));
   complete = λ t good r s. absurd (s rose);
   usage = λ h. absurd (omega (arith, e, h));
   no_command = λ h. absurd (no_none command h);
   refused = λ h t. absurd (no_refusal status 8 h (inr (inr (inr (inl refl)))) e);
   refuses = λ f t b. inr (inr (inl e));
+  only_audits = λ h. absurd (omega (arith, e, h));
+  failed_audit = λ h t. absurd (omega (arith, e, h));
+  fails_audit = λ x t b. inr (inr (inl e));
   shelf_fault = λ h. absurd (omega (arith, e, h));
   sink_fault = λ h. rose;
   others = λ t name apart. stays name;
@@ -154,6 +244,7 @@ refused_part T old new shelf tells before after sink command failure status stay
   said = λ h t u. absurd (not_good status (inr (inl e)) h);
   part_said = λ h t u. (line_of failure, inl (failure, bad t, refl), wrote u);
   silent = λ h u. absurd (not_silent status (inr (inr e)) h);
+  begun = λ h t u. absurd (not_nine status (inr (inr e)) h);
 }
 
 -- the shelf failed, or a file isn't there
@@ -163,11 +254,15 @@ shelf_failed : (T : Type 0) (old new : Held) (shelf tells : Type 0) (before afte
 shelf_failed T old new shelf tells before after sink command status stays why e quiet = record {
   statuses = inr (inr (inr (inl e)));
   done = λ h t. absurd (omega (arith, e, h));
-  complete = λ t good r s. elim why [ inl up ↦ absurd (r up) | inr lacks ↦ absurd (not_missing old (files_of command) good lacks.1) ];
+  audited = λ h t. absurd (omega (arith, e, h));
+  complete = λ t good r s. elim why [ inl up ↦ absurd (r up) | inr lacks ↦ absurd (not_missing old (files_of command) good.0 lacks.1) ];
   usage = λ h. absurd (omega (arith, e, h));
   no_command = λ h. absurd (no_none command h);
   refused = λ h t. absurd (no_refusal status 7 h (inr (inr (inl refl))) e);
   refuses = λ f t b. inr (inl e);
+  only_audits = λ h. absurd (omega (arith, e, h));
+  failed_audit = λ h t. absurd (omega (arith, e, h));
+  fails_audit = λ x t b. inr (inl e);
   shelf_fault = λ h. why;
   sink_fault = λ h. absurd (omega (arith, e, h));
   others = λ t name apart. stays name;
@@ -177,6 +272,7 @@ shelf_failed T old new shelf tells before after sink command status stays why e 
   said = λ h t u. absurd (not_good status (inl e) h);
   part_said = λ h t u. absurd (omega (arith, e, h));
   silent = λ h u. quiet u;
+  begun = λ h t u. inl (quiet u);
 }
 
 -- there was no memory
@@ -184,13 +280,17 @@ pub memory_failed : (T : Type 0) (old new : Held) (shelf tells : Type 0) (before
     → (T → SameNames old new) → status ≡ 9 → (tells → after ≡ before)
     → Leaves T old new shelf tells before after sink (Some command) status
 memory_failed T old new shelf tells before after sink command status stays e quiet = record {
-  statuses = inr (inr (inr (inr (inr e))));
+  statuses = inr (inr (inr (inr (inr (inl e)))));
   done = λ h t. absurd (omega (arith, e, h));
+  audited = λ h t. absurd (omega (arith, e, h));
   complete = λ t good r s. inr e;
   usage = λ h. absurd (omega (arith, e, h));
   no_command = λ h. absurd (no_none command h);
   refused = λ h t. absurd (no_refusal status 9 h (inr (inr (inr (inr refl)))) e);
   refuses = λ f t b. inr (inr (inr e));
+  only_audits = λ h. absurd (omega (arith, e, h));
+  failed_audit = λ h t. absurd (omega (arith, e, h));
+  fails_audit = λ x t b. inr (inr (inr e));
   shelf_fault = λ h. absurd (omega (arith, e, h));
   sink_fault = λ h. absurd (omega (arith, e, h));
   others = λ t name apart. stays t name;
@@ -200,6 +300,7 @@ memory_failed T old new shelf tells before after sink command status stays e qui
   said = λ h t u. absurd (not_good status (inr (inr e)) h);
   part_said = λ h t u. absurd (omega (arith, e, h));
   silent = λ h u. quiet u;
+  begun = λ h t u. inl (quiet u);
 }
 
 -- what a report says, by the sort of the failure
@@ -233,41 +334,50 @@ refused_call T old new shelf tells before after sink command Is failure status s
 
 -- the text was written
 done_whole : (T : Type 0) (old new : Held) (shelf tells : Type 0) (before after : List ℕ) (sink : Type 0) (command : Command) (text : List ℕ) (status : ℕ)
-    → (T → AreGood old (files_of command)) → (T → HasPut old new command) → (T → (name : List ℕ) → (Puts (Some command) name → ⊥) → new name ≡ old name)
-    → (T → Prints old command text) → status ≡ 0 → (tells → after ≡ before ++ text)
+    → (T → Accepts old (Some command)) → (T → Audited old (Some command)) → (T → HasPut old new command) → (T → (name : List ℕ) → (Puts (Some command) name → ⊥) → new name ≡ old name)
+    → (T → Prints old new command text) → status ≡ 0 → (tells → after ≡ before ++ text)
     → Leaves T old new shelf tells before after sink (Some command) status
-done_whole T old new shelf tells before after sink command text status good put others prints e wrote = record {
+done_whole T old new shelf tells before after sink command text status good known put others prints e wrote = record {
   statuses = inl e;
   done = λ h t. (good t, put t);
+  audited = λ h t. known t;
   complete = λ t accepted r s. inl e;
   usage = λ h. absurd (omega (arith, e, h));
   no_command = λ h. absurd (no_none command h);
   refused = λ h t. absurd (no_refusal status 0 h (inl refl) e);
-  refuses = λ f t b. absurd (not_both_ways old (files_of command) f (good t) b);
+  refuses = λ f t b. absurd (not_both_ways old (files_of command) f (good t).0 b);
+  only_audits = λ h. absurd (omega (arith, e, h));
+  failed_audit = λ h t. absurd (omega (arith, e, h));
+  fails_audit = λ x t b. absurd (passes_or_fails old command x (good t).1 b);
   shelf_fault = λ h. absurd (omega (arith, e, h));
   sink_fault = λ h. absurd (omega (arith, e, h));
   others = others;
   nothing_put = λ h t. absurd (not_nothing status (inl e) h);
   unless_accepted = λ t not. absurd (not (good t));
   put_unless_refused = λ h t. absurd (omega (arith, e, h));
-  said = λ h t u. (text, inr (good t, prints t), wrote u);
+  said = λ h t u. (text, inr ((good t).0, prints t), wrote u);
   part_said = λ h t u. absurd (omega (arith, e, h));
   silent = λ h u. absurd (not_silent status (inr (inl e)) h);
+  begun = λ h t u. absurd (not_nine status (inr (inl e)) h);
 }
 
 -- a part of it stands
 done_part : (T : Type 0) (old new : Held) (shelf tells : Type 0) (before after : List ℕ) (sink : Type 0) (command : Command) (text : List ℕ) (status : ℕ)
-    → (T → AreGood old (files_of command)) → (T → HasPut old new command) → (T → (name : List ℕ) → (Puts (Some command) name → ⊥) → new name ≡ old name)
-    → (T → Prints old command text) → status ≡ 8 → sink → (tells → AppendsPart before after text)
+    → (T → Accepts old (Some command)) → (T → HasPut old new command) → (T → (name : List ℕ) → (Puts (Some command) name → ⊥) → new name ≡ old name)
+    → (T → Prints old new command text) → status ≡ 8 → sink → (tells → AppendsPart before after text)
     → Leaves T old new shelf tells before after sink (Some command) status
 done_part T old new shelf tells before after sink command text status good put others prints e rose wrote = record {
   statuses = inr (inr (inr (inr (inl e))));
   done = λ h t. absurd (omega (arith, e, h));
+  audited = λ h t. absurd (omega (arith, e, h));
   complete = λ t accepted r s. absurd (s rose);
   usage = λ h. absurd (omega (arith, e, h));
   no_command = λ h. absurd (no_none command h);
   refused = λ h t. absurd (no_refusal status 8 h (inr (inr (inr (inl refl)))) e);
   refuses = λ f t b. inr (inr (inl e));
+  only_audits = λ h. absurd (omega (arith, e, h));
+  failed_audit = λ h t. absurd (omega (arith, e, h));
+  fails_audit = λ x t b. inr (inr (inl e));
   shelf_fault = λ h. absurd (omega (arith, e, h));
   sink_fault = λ h. rose;
   others = others;
@@ -275,33 +385,38 @@ done_part T old new shelf tells before after sink command text status good put o
   unless_accepted = λ t not. absurd (not (good t));
   put_unless_refused = λ h t. inr (good t, put t);
   said = λ h t u. absurd (not_good status (inr (inl e)) h);
-  part_said = λ h t u. (text, inr (good t, prints t), wrote u);
+  part_said = λ h t u. (text, inr ((good t).0, prints t), wrote u);
   silent = λ h u. absurd (not_silent status (inr (inr e)) h);
+  begun = λ h t u. absurd (not_nine status (inr (inr e)) h);
 }
 
 -- where nothing is put, the text of a call that is done
 pub done_call : (T : Type 0) (old new : Held) (shelf tells : Type 0) (before after : List ℕ) (sink : Type 0) (command : Command) (text : List ℕ) (work : Result (Unit {0}) SinkFault) (status : ℕ)
-    → SameNames old new → (T → AreGood old (files_of command)) → (T → HasPut old new command) → (T → Prints old command text)
+    → SameNames old new → (T → Accepts old (Some command)) → (T → Audited old (Some command)) → (T → HasPut old new command) → (T → Prints old new command text)
     → Writes tells before after sink text work → status ≡ (if is_ok work then 0 else 8)
     → Leaves T old new shelf tells before after sink (Some command) status
-done_call T old new shelf tells before after sink command text (Ok u) status stays good put prints writes e =
-    done_whole T old new shelf tells before after sink command text status good put (λ t name apart. stays name) prints e writes.ok
-done_call T old new shelf tells before after sink command text (Err f) status stays good put prints writes e =
+done_call T old new shelf tells before after sink command text (Ok u) status stays good known put prints writes e =
+    done_whole T old new shelf tells before after sink command text status good known put (λ t name apart. stays name) prints e writes.ok
+done_call T old new shelf tells before after sink command text (Err f) status stays good known put prints writes e =
     done_part T old new shelf tells before after sink command text status good put (λ t name apart. stays name) prints e writes.fault writes.part
 
 -- the shelf failed at the put
 put_failed : (T : Type 0) (old new : Held) (shelf tells : Type 0) (before after : List ℕ) (sink : Type 0) (command : Command) (status : ℕ)
-    → (T → AreGood old (files_of command)) → (T → (name : List ℕ) → (Puts (Some command) name → ⊥) → new name ≡ old name)
+    → (T → Accepts old (Some command)) → (T → (name : List ℕ) → (Puts (Some command) name → ⊥) → new name ≡ old name)
     → shelf → status ≡ 7 → (tells → after ≡ before)
     → Leaves T old new shelf tells before after sink (Some command) status
 put_failed T old new shelf tells before after sink command status good others rose e quiet = record {
   statuses = inr (inr (inr (inl e)));
   done = λ h t. absurd (omega (arith, e, h));
+  audited = λ h t. absurd (omega (arith, e, h));
   complete = λ t accepted r s. absurd (r rose);
   usage = λ h. absurd (omega (arith, e, h));
   no_command = λ h. absurd (no_none command h);
   refused = λ h t. absurd (no_refusal status 7 h (inr (inr (inl refl))) e);
   refuses = λ f t b. inr (inl e);
+  only_audits = λ h. absurd (omega (arith, e, h));
+  failed_audit = λ h t. absurd (omega (arith, e, h));
+  fails_audit = λ x t b. inr (inl e);
   shelf_fault = λ h. inl rose;
   sink_fault = λ h. absurd (omega (arith, e, h));
   others = others;
@@ -311,26 +426,57 @@ put_failed T old new shelf tells before after sink command status good others ro
   said = λ h t u. absurd (not_good status (inl e) h);
   part_said = λ h t u. absurd (omega (arith, e, h));
   silent = λ h u. quiet u;
+  begun = λ h t u. inl (quiet u);
 }
+
+put_speaks : (s : ℕ) → (s ≡ 0) ⊎ (s ≡ 8) → (s ≡ 7) ⊎ (s ≡ 9) → ⊥
+put_speaks s a b = grind arith
 
 -- a file was put, and a line written
 pub put_call : (T : Type 0) (old new : Held) (shelf tells : Type 0) (before after : List ℕ) (sink : Type 0) (command : Command) (name file line : List ℕ) (status : ℕ)
-    → (T → AreGood old (files_of command)) → (T → new name ≡ Some file → HasPut old new command) → Puts (Some command) name → (T → Prints old command line)
+    → (T → Accepts old (Some command)) → (T → Audited old (Some command)) → (T → new name ≡ Some file → HasPut old new command) → Puts (Some command) name → (T → new name ≡ Some file → Prints old new command line)
     → PutsAndSays T old new shelf tells before after sink name file line status
     → Leaves T old new shelf tells before after sink (Some command) status
-put_call T old new shelf tells before after sink command name file line status good put is prints p =
+put_call T old new shelf tells before after sink command name file line status good known put is prints p =
     let others : T → (n : List ℕ) → (Puts (Some command) n → ⊥) → new n ≡ old n =
     λ t n apart. p.others t n (λ e. apart (subst (λ (m : List ℕ). Puts (Some command) m) (sym e) is)) in
     elim p.statuses [
-      | inl e ↦ done_whole T old new shelf tells before after sink command line status good (λ t. put t (p.put (inl e) t)) others prints e (p.said e)
+      | inl e ↦ done_whole T old new shelf tells before after sink command line status good known (λ t. put t (p.put (inl e) t)) others (λ t. prints t (p.put (inl e) t)) e (p.said e)
       | inr a ↦ elim a [
         | inl e ↦ put_failed T old new shelf tells before after sink command status good others (p.shelf e) e (p.silent (inl e))
         | inr b ↦ elim b [
-          | inl e ↦ done_part T old new shelf tells before after sink command line status good (λ t. put t (p.put (inr e) t)) others prints e (p.sink e) (p.part e)
+          | inl e ↦ done_part T old new shelf tells before after sink command line status good (λ t. put t (p.put (inr e) t)) others (λ t. prints t (p.put (inr e) t)) e (p.sink e) (p.part e)
           | inr e ↦ memory_failed T old new shelf tells before after sink command status (p.memory e) e (p.silent (inr e))
         ]
       ]
     ]
+
+-- a file was put, and then a text was written or a part of it
+pub put_told : (T : Type 0) (old new : Held) (shelf tells : Type 0) (before after : List ℕ) (sink : Type 0) (name file text : List ℕ) (work : Result (Unit {0}) SinkFault) (status : ℕ)
+    → (T → new name ≡ Some file) → (T → SameOthers name old new) → Writes tells before after sink text work → status ≡ (if is_ok work then 0 else 8)
+    → PutsAndSays T old new shelf tells before after sink name file text status
+put_told T old new shelf tells before after sink name file text (Ok u) status put others writes e = record {
+  statuses = inl e;
+  put = λ h t. put t;
+  others = others;
+  memory = λ h t. absurd (omega (arith, e, h));
+  shelf = λ h. absurd (omega (arith, e, h));
+  sink = λ h. absurd (omega (arith, e, h));
+  said = λ h u. writes.ok u;
+  part = λ h u. absurd (omega (arith, e, h));
+  silent = λ h u. absurd (put_speaks status (inl e) h);
+}
+put_told T old new shelf tells before after sink name file text (Err f) status put others writes e = record {
+  statuses = inr (inr (inl e));
+  put = λ h t. put t;
+  others = others;
+  memory = λ h t. absurd (omega (arith, e, h));
+  shelf = λ h. absurd (omega (arith, e, h));
+  sink = λ h. writes.fault;
+  said = λ h u. absurd (omega (arith, e, h));
+  part = λ h u. writes.part u;
+  silent = λ h u. absurd (put_speaks status (inr e) h);
+}
 
 -- what a put leaves of a shelf that was read before
 pub put_moved : (told now : Bool) (old mid new : Held) (shelf later tells : Type 0) (before after : List ℕ) (sink : Type 0) (name file line : List ℕ) (status : ℕ)
@@ -353,24 +499,157 @@ put_moved told now old mid new shelf later tells before after sink name file lin
       silent = b.silent;
     }
 
+-- ---- an audit does not pass
+
+-- the line of it was written
+unpassed_whole : (T : Type 0) (old new : Held) (shelf tells : Type 0) (before after : List ℕ) (sink : Type 0) (image input : List ℕ) (steps : ℕ) (error : AuditError) (status : ℕ)
+    → SameNames old new → (T → FailsAudit old (Some (Audit image input steps)) error) → status ≡ 10 → (tells → after ≡ before ++ no_line error)
+    → Leaves T old new shelf tells before after sink (Some (Audit image input steps)) status
+unpassed_whole T old new shelf tells before after sink image input steps error status stays fails e wrote = record {
+  statuses = inr (inr (inr (inr (inr (inr e)))));
+  done = λ h t. absurd (omega (arith, e, h));
+  audited = λ h t. absurd (omega (arith, e, h));
+  complete = λ t accepted r s. absurd (passes_or_fails old (Audit image input steps) error accepted.1 (fails t));
+  usage = λ h. absurd (omega (arith, e, h));
+  no_command = λ h. absurd (no_none (Audit image input steps) h);
+  refused = λ h t. absurd (not_ten status h e);
+  refuses = λ f t b. absurd (not_both_ways old (ImageFile image ∷ InputFile input ∷ []) f (run_good old image input _ (fails t)) b);
+  only_audits = λ h. tt;
+  failed_audit = λ h t. (error, fails t);
+  fails_audit = λ x t b. inl e;
+  shelf_fault = λ h. absurd (omega (arith, e, h));
+  sink_fault = λ h. absurd (omega (arith, e, h));
+  others = λ t name apart. stays name;
+  nothing_put = λ h t. stays;
+  unless_accepted = λ t not. stays;
+  put_unless_refused = λ h t. inl stays;
+  said = λ h t u. (no_line error, inr (run_good old image input _ (fails t), tells_no old image input steps error (fails t)), wrote u);
+  part_said = λ h t u. absurd (omega (arith, e, h));
+  silent = λ h u. absurd (ten_speaks status e h);
+  begun = λ h t u. absurd (omega (arith, e, h));
+}
+
+-- a part of it stands
+unpassed_part : (T : Type 0) (old new : Held) (shelf tells : Type 0) (before after : List ℕ) (sink : Type 0) (image input : List ℕ) (steps : ℕ) (error : AuditError) (status : ℕ)
+    → SameNames old new → (T → FailsAudit old (Some (Audit image input steps)) error) → status ≡ 8 → sink → (tells → AppendsPart before after (no_line error))
+    → Leaves T old new shelf tells before after sink (Some (Audit image input steps)) status
+unpassed_part T old new shelf tells before after sink image input steps error status stays fails e rose wrote = record {
+  statuses = inr (inr (inr (inr (inl e))));
+  done = λ h t. absurd (omega (arith, e, h));
+  audited = λ h t. absurd (omega (arith, e, h));
+  complete = λ t accepted r s. absurd (s rose);
+  usage = λ h. absurd (omega (arith, e, h));
+  no_command = λ h. absurd (no_none (Audit image input steps) h);
+  refused = λ h t. absurd (no_refusal status 8 h (inr (inr (inr (inl refl)))) e);
+  refuses = λ f t b. inr (inr (inl e));
+  only_audits = λ h. absurd (omega (arith, e, h));
+  failed_audit = λ h t. absurd (omega (arith, e, h));
+  fails_audit = λ x t b. inr (inr (inl e));
+  shelf_fault = λ h. absurd (omega (arith, e, h));
+  sink_fault = λ h. rose;
+  others = λ t name apart. stays name;
+  nothing_put = λ h t. stays;
+  unless_accepted = λ t not. stays;
+  put_unless_refused = λ h t. inl stays;
+  said = λ h t u. absurd (not_good status (inr (inl e)) h);
+  part_said = λ h t u. (no_line error, inr (run_good old image input _ (fails t), tells_no old image input steps error (fails t)), wrote u);
+  silent = λ h u. absurd (not_silent status (inr (inr e)) h);
+  begun = λ h t u. absurd (not_nine status (inr (inr e)) h);
+}
+
+unpassed_said : (T : Type 0) (old new : Held) (shelf tells : Type 0) (before after : List ℕ) (sink : Type 0) (image input : List ℕ) (steps : ℕ) (error : AuditError) (good status : ℕ)
+    → SameNames old new → (T → FailsAudit old (Some (Audit image input steps)) error) → good ≡ 10 → Said tells before after sink (no_line error) good status
+    → Leaves T old new shelf tells before after sink (Some (Audit image input steps)) status
+unpassed_said T old new shelf tells before after sink image input steps error good status stays fails ten (Whole e wrote) =
+    unpassed_whole T old new shelf tells before after sink image input steps error status stays fails (e ∙ ten) wrote
+unpassed_said T old new shelf tells before after sink image input steps error good status stays fails ten (Part e rose wrote) =
+    unpassed_part T old new shelf tells before after sink image input steps error status stays fails e rose wrote
+
+-- why it does not pass was said, or there was no memory
+pub unpassed_call : (T : Type 0) (old new : Held) (shelf tells : Type 0) (before after : List ℕ) (sink : Type 0) (image input : List ℕ) (steps : ℕ) (error : AuditError) (status : ℕ)
+    → SameNames old new → ((error ≡ audits.OutOfMemory → ⊥) → T → FailsAudit old (Some (Audit image input steps)) error)
+    → Said tells before after sink (no_line error) (audit_status error) status
+    → (error ≡ audits.OutOfMemory → (status ≡ 9) × (tells → after ≡ before))
+    → Leaves T old new shelf tells before after sink (Some (Audit image input steps)) status
+unpassed_call T old new shelf tells before after sink image input steps (audits.Lint a r) status stays fails said silent =
+    unpassed_said T old new shelf tells before after sink image input steps (audits.Lint a r) 10 status stays (fails (λ q. cc)) refl said
+unpassed_call T old new shelf tells before after sink image input steps (audits.Reports n) status stays fails said silent =
+    unpassed_said T old new shelf tells before after sink image input steps (audits.Reports n) 10 status stays (fails (λ q. cc)) refl said
+unpassed_call T old new shelf tells before after sink image input steps (audits.Misplaced n a) status stays fails said silent =
+    unpassed_said T old new shelf tells before after sink image input steps (audits.Misplaced n a) 10 status stays (fails (λ q. cc)) refl said
+unpassed_call T old new shelf tells before after sink image input steps audits.OutOfMemory status stays fails said silent =
+    let quiet = silent refl in
+    memory_failed T old new shelf tells before after sink (Audit image input steps) status (λ t. stays) quiet.0 quiet.1
+
+-- ---- a run of a source is shown
+
+speaks : (s : ℕ) → s ≡ 9 → (s ≡ 7) ⊎ ((s ≡ 9) × (Unit {0} → ⊥)) → ⊥
+speaks s e (inl h) = omega (arith, e, h)
+speaks s e (inr h) = h.1 tt
+
+-- there was no memory for the rest of it
+shown_short : (T : Type 0) (old new : Held) (shelf tells : Type 0) (before after : List ℕ) (sink : Type 0) (source input : List ℕ) (turns : ℕ) (text : List ℕ) (status : ℕ)
+    → SameNames old new → (T → AreGood old (files_of (Eval source input turns))) → (T → Prints old new (Eval source input turns) text) → status ≡ 9
+    → (tells → AppendsPart before after text) → Leaves T old new shelf tells before after sink (Some (Eval source input turns)) status
+shown_short T old new shelf tells before after sink source input turns text status stays good prints e wrote = record {
+  statuses = inr (inr (inr (inr (inr (inl e)))));
+  done = λ h t. absurd (omega (arith, e, h));
+  audited = λ h t. absurd (omega (arith, e, h));
+  complete = λ t accepted r s. inr e;
+  usage = λ h. absurd (omega (arith, e, h));
+  no_command = λ h. absurd (no_none (Eval source input turns) h);
+  refused = λ h t. absurd (no_refusal status 9 h (inr (inr (inr (inr refl)))) e);
+  refuses = λ f t b. inr (inr (inr e));
+  only_audits = λ h. absurd (omega (arith, e, h));
+  failed_audit = λ h t. absurd (omega (arith, e, h));
+  fails_audit = λ x t b. inr (inr (inr e));
+  shelf_fault = λ h. absurd (omega (arith, e, h));
+  sink_fault = λ h. absurd (omega (arith, e, h));
+  others = λ t name apart. stays name;
+  nothing_put = λ h t. stays;
+  unless_accepted = λ t not. stays;
+  put_unless_refused = λ h t. absurd (omega (arith, e, h));
+  said = λ h t u. absurd (not_good status (inr (inr e)) h);
+  part_said = λ h t u. absurd (omega (arith, e, h));
+  silent = λ h u. absurd (speaks status e h);
+  begun = λ h t u. inr (text, inr (good t, prints t), wrote u);
+}
+
+-- it was shown whole, or the sink failed, or memory was wanting
+pub shown_call : (T : Type 0) (old new : Held) (shelf tells : Type 0) (before after : List ℕ) (sink : Type 0) (source input : List ℕ) (turns : ℕ) (text : List ℕ)
+    (work : Result (Unit {0}) ShowError) (status : ℕ) → SameNames old new → (T → AreGood old (files_of (Eval source input turns))) → (T → Prints old new (Eval source input turns) text)
+    → OnOk work (tells → after ≡ before ++ text) → (IsErrOf work shows.Sink → sink) → OnErr work (tells → AppendsPart before after text) → status ≡ run_status work
+    → Leaves T old new shelf tells before after sink (Some (Eval source input turns)) status
+shown_call T old new shelf tells before after sink source input turns text (Ok u) status stays good prints ok fault part e =
+    done_whole T old new shelf tells before after sink (Eval source input turns) text status (λ t. (good t, tt)) (λ t. tt) (λ t. tt) (λ t name apart. stays name) prints e ok
+shown_call T old new shelf tells before after sink source input turns text (Err shows.Sink) status stays good prints ok fault part e =
+    done_part T old new shelf tells before after sink (Eval source input turns) text status (λ t. (good t, tt)) (λ t. tt) (λ t name apart. stays name) prints e (fault refl) part
+shown_call T old new shelf tells before after sink source input turns text (Err shows.OutOfMemory) status stays good prints ok fault part e =
+    shown_short T old new shelf tells before after sink source input turns text status stays good prints e part
+
 -- ---- no command
 
-not_usage : (s : ℕ) → s ≡ 2 → (s ≡ 7) ⊎ (s ≡ 9) → ⊥
-not_usage s a b = grind arith
+not_usage : {X : Type 0} (s : ℕ) → s ≡ 2 → (s ≡ 7) ⊎ ((s ≡ 9) × X) → ⊥
+not_usage s a (inl b) = grind (arith, a, b)
+not_usage s a (inr b) = grind (arith, a, b.0)
 
 is_usage : (s : ℕ) → s ≡ 2 → IsRefusal s → ⊥
 is_usage s a b = grind arith
 
 pub no_command : (T : Type 0) (held : Held) (shelf tells : Type 0) (before after : List ℕ) (sink : Type 0) (line : List ℕ) (status : ℕ)
-    → Says held None line → Said tells before after sink line 2 status → Leaves T held held shelf tells before after sink None status
+    → Says held held None line → Said tells before after sink line 2 status → Leaves T held held shelf tells before after sink None status
 no_command T held shelf tells before after sink line status says (Whole e wrote) = record {
   statuses = inr (inl e);
   done = λ h t. absurd (omega (arith, e, h));
+  audited = λ h t. absurd (omega (arith, e, h));
   complete = λ t accepted r s. absurd accepted;
   usage = λ h. refl;
   no_command = λ h. inl e;
   refused = λ h t. absurd (is_usage status e h);
   refuses = λ f t b. absurd b;
+  only_audits = λ h. absurd (omega (arith, e, h));
+  failed_audit = λ h t. absurd (omega (arith, e, h));
+  fails_audit = λ x t b. absurd b;
   shelf_fault = λ h. absurd (omega (arith, e, h));
   sink_fault = λ h. absurd (omega (arith, e, h));
   others = λ t name apart. refl;
@@ -380,15 +659,20 @@ no_command T held shelf tells before after sink line status says (Whole e wrote)
   said = λ h t u. (line, says, wrote u);
   part_said = λ h t u. absurd (omega (arith, e, h));
   silent = λ h u. absurd (not_usage status e h);
+  begun = λ h t u. absurd (omega (arith, e, h));
 }
 no_command T held shelf tells before after sink line status says (Part e rose wrote) = record {
   statuses = inr (inr (inr (inr (inl e))));
   done = λ h t. absurd (omega (arith, e, h));
+  audited = λ h t. absurd (omega (arith, e, h));
   complete = λ t accepted r s. absurd accepted;
   usage = λ h. refl;
   no_command = λ h. inr e;
   refused = λ h t. absurd (no_refusal status 8 h (inr (inr (inr (inl refl)))) e);
   refuses = λ f t b. absurd b;
+  only_audits = λ h. absurd (omega (arith, e, h));
+  failed_audit = λ h t. absurd (omega (arith, e, h));
+  fails_audit = λ x t b. absurd b;
   shelf_fault = λ h. absurd (omega (arith, e, h));
   sink_fault = λ h. rose;
   others = λ t name apart. refl;
@@ -398,4 +682,5 @@ no_command T held shelf tells before after sink line status says (Part e rose wr
   said = λ h t u. absurd (not_good status (inr (inl e)) h);
   part_said = λ h t u. (line, says, wrote u);
   silent = λ h u. absurd (not_silent status (inr (inr e)) h);
+  begun = λ h t u. absurd (not_nine status (inr (inr e)) h);
 }

@@ -11,7 +11,8 @@ use Rattle.hard_lines.specs.Inputs.{inputs}
 use Rattle.hard_lines.specs.declared.inputs.LinesError.{LinesError}
 use Rattle.hard_lines.specs.declared.inputs.LinesError.TheVariants as lines
 use Rattle.hardcc_core.specs.declared.failure.Failure.TheVariants.{Source, Image, Input, Shelf, Memory}
-use Rattle.hardcc_core.specs.Files.{Held, Holds, File, SourceFile, ImageFile, InputFile, name_of, IsBad, BadSource, BadImage, BadInput, HoldsGood, longest_image, longest_input}
+use Rattle.hardcc_core.specs.Files.{Held, Holds, File, SourceFile, ImageFile, InputFile, MadeFile, bytes_of, IsBad, BadSource, BadMade, BadImage, BadInput, HoldsGood, longest_image, longest_input}
+use Rattle.program_maker.specs.Text.{made_text}
 use Rattle.hardcc_core.specs.Parts.{Explains, Reads, RefusesBytes}
 
 -- a count that rose in a later part rose in the whole
@@ -28,21 +29,21 @@ good_reads T held rose files Is a is = record { ok = is; explained = tt; shelf =
 
 -- what the file holds is refused
 pub bad_reads : {A : Type 0} (T : Type 0) (held : Held) (rose : Type 0) (file : File) (Is : A → Type 0) (bytes : List ℕ) (failure : Failure)
-    → failure ≢ Shelf → (T → held (name_of file) ≡ Some bytes) → IsBad bytes file failure → Reads T held rose (file ∷ []) Is (Err failure)
+    → failure ≢ Shelf → (T → bytes_of held file ≡ Some bytes) → IsBad bytes file failure → Reads T held rose (file ∷ []) Is (Err failure)
 bad_reads T held rose file Is bytes failure apart is bad =
     record { ok = tt; explained = λ t seven nine. inl (bytes, is t, bad); shelf = λ e. absurd (apart (cc)) }
 
 -- the file isn't taken: it is too large, or the outside failed
 pub none_reads : {A : Type 0} (T : Type 0) (held : Held) (rose : Type 0) (file : File) (Is : A → Type 0) (most : ℕ) (large failure : Failure)
     → ((bytes : List ℕ) → most < length bytes → IsBad bytes file large)
-    → (T → Explains (λ why. (why ≡ large) × HoldsMore (held (name_of file)) most) failure)
-    → (failure ≡ Shelf → rose ⊎ (T × (held (name_of file) ≡ None)))
+    → (T → Explains (λ why. (why ≡ large) × HoldsMore (bytes_of held file) most) failure)
+    → (failure ≡ Shelf → rose ⊎ (T × (bytes_of held file ≡ None)))
     → Reads T held rose (file ∷ []) Is (Err failure)
 none_reads T held rose file Is most large failure bad explained shelf = record {
   ok = tt;
   explained = λ t seven nine.
-      let more : (failure ≡ large) × HoldsMore (held (name_of file)) most = explained t seven nine in
-      let held_more : HoldsMore (held (name_of file)) most = more.1 in
+      let more : (failure ≡ large) × HoldsMore (bytes_of held file) most = explained t seven nine in
+      let held_more : HoldsMore (bytes_of held file) most = more.1 in
       inl (held_more.0, held_more.1, subst (λ (f : Failure). IsBad held_more.0 file f) (sym more.0) (bad held_more.0 held_more.2));
   shelf = λ e. elim (shelf (cc)) [ inl up ↦ inl up | inr absent ↦ inr (absent.0, inl absent.1) ];
 }
@@ -79,7 +80,7 @@ moved {A} told now old mid rose later files Is work e same up r =
 
 -- a file that was taken is refused, or there was no memory
 pub either_reads : {A : Type 0} (T : Type 0) (held : Held) (rose : Type 0) (file : File) (Is : A → Type 0) (bytes : List ℕ) (failure : Failure)
-    → (T → held (name_of file) ≡ Some bytes) → (failure ≡ Memory) ⊎ ((failure ≢ Shelf) × IsBad bytes file failure) → Reads T held rose (file ∷ []) Is (Err failure)
+    → (T → bytes_of held file ≡ Some bytes) → (failure ≡ Memory) ⊎ ((failure ≢ Shelf) × IsBad bytes file failure) → Reads T held rose (file ∷ []) Is (Err failure)
 either_reads T held rose file Is bytes failure is why = elim why [
   | inl memory ↦ subst (λ (f : Failure). Reads T held rose (file ∷ []) Is (Err f)) (sym memory) (memory_reads T held rose (file ∷ []) Is)
   | inr bad ↦ bad_reads T held rose file Is bytes failure bad.0 is bad.1
@@ -113,4 +114,13 @@ compiled_reads T held rose name bytes P (Err f) is ok err =
     either_reads T held rose (SourceFile name) (λ a. Holds held name (λ b. P b a)) bytes f is (elim err [
       | inl memory ↦ inl memory
       | inr bad ↦ inr (λ e. let x : Source bad.0 ≡ Shelf = sym bad.1 ∙ e in cc, subst (λ (f : Failure). IsBad bytes (SourceFile name) f) (sym bad.1) (BadSource name bad.0 bad.2))
+    ])
+
+-- a made program is refused, or there was no memory
+pub made_reads : (T : Type 0) (held : Held) (rose : Type 0) (number size : ℕ) (failure : Failure) → RefusesBytes (made_text number size) failure
+    → Reads T held rose (MadeFile number size ∷ []) (λ (x : Unit {0}). Unit {0}) (Err failure)
+made_reads T held rose number size failure why =
+    either_reads T held rose (MadeFile number size) (λ (x : Unit {0}). Unit {0}) (made_text number size) failure (λ t. refl) (elim why [
+      | inl memory ↦ inl memory
+      | inr bad ↦ inr (λ e. let x : Source bad.0 ≡ Shelf = sym bad.1 ∙ e in cc, subst (λ (f : Failure). IsBad (made_text number size) (MadeFile number size) f) (sym bad.1) (BadMade number size bad.0 bad.2))
     ])

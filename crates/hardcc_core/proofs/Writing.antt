@@ -1,6 +1,6 @@
 -- Texts that are written one after another.
-use Rattle.std.proofs.Common.{◌≡◌, ℕ, ◌+◌, ◌<◌, Bool, List, [], ◌∷◌, ◌++◌, length, take, drop, get_or, ap, sym, ◌∙◌, subst, append_assoc, append-nil}
-use Rattle.std.specs.Prelude.{Result, Ok, Err, IsTrue}
+use Rattle.std.proofs.Common.{◌≡◌, ℕ, ◌+◌, ◌<◌, Bool, List, [], ◌∷◌, ◌++◌, length, take, drop, get_or, ap, sym, ◌∙◌, subst, append_assoc, append-nil, refl}
+use Rattle.std.specs.Prelude.{Result, Ok, Err, OnOk, OnErr, IsTrue}
 use Rattle.std.specs.List.{flat_map}
 use Rattle.std.proofs.lemmas.List.{take_more, take-append-drop}
 use Rattle.std.proofs.lemmas.List.Concat.{flat_map-append}
@@ -28,6 +28,29 @@ writes_behind old now before mid after rose later text more (Err f) e first up w
   fault = up w.fault;
   part = λ t. part_behind before mid after text more (first t) (w.part (subst IsTrue (sym e) t));
 }
+
+-- a line that did not go out whole, before more of them
+pub line_front : (tells : Type 0) (before after : List ℕ) (rose : Type 0) (line is more : List ℕ) (fault : SinkFault)
+    → line ≡ is → rose → (tells → AppendsPart before after line) → Writes tells before after rose (is ++ more) (Err fault)
+line_front tells before after rose line is more fault e up part = record {
+  ok = tt;
+  fault = up;
+  part = λ t. part_front before after is (is ++ more) more refl (subst (λ (l : List ℕ). AppendsPart before after l) e (part t));
+}
+
+-- a line that went out, before more of them
+pub line_behind : (old now : Bool) (before mid after : List ℕ) (rose later : Type 0) (line is more : List ℕ) (work : Result (Unit {0}) SinkFault)
+    → now ≡ old → (IsTrue old → mid ≡ before ++ line) → line ≡ is → (later → rose) → Writes (IsTrue now) mid after later more work
+    → Writes (IsTrue old) before after rose (is ++ more) work
+line_behind old now before mid after rose later line is more work e first same up w =
+    writes_behind old now before mid after rose later is more work e (λ t. first t ∙ ap (λ (l : List ℕ). before ++ l) same) up w
+
+-- the last line
+pub line_last : (tells : Type 0) (before after : List ℕ) (rose : Type 0) (line is : List ℕ) (work : Result (Unit {0}) SinkFault)
+    → line ≡ is → OnOk work (tells → after ≡ before ++ line) → OnErr work rose → OnErr work (tells → AppendsPart before after line)
+    → Writes tells before after rose is work
+line_last tells before after rose line is work e ok fault part =
+    subst (λ (l : List ℕ). Writes tells before after rose l work) e (record { ok = ok; fault = fault; part = part })
 
 -- a fault in the line of one element is one in the lines of all
 pub line_stopped : {X : Type 0} (old now : Bool) (before mid after : List ℕ) (rose later : Type 0) (f : X → List ℕ) (all : List X) (at : ℕ) (d : X) (line : List ℕ) (fault : SinkFault)

@@ -1,5 +1,9 @@
 -- Why a command isn't done: the status and the line of each reason.
-use Rattle.std.specs.Prelude.{ℕ, List, []}
+use Rattle.std.specs.Prelude.{ℕ, List, [], Result, Ok, Err}
+use Rattle.eval_lines.specs.declared.show.ShowError.{ShowError}
+use Rattle.eval_lines.specs.declared.show.ShowError.TheVariants as shows
+use Rattle.run_audit.specs.declared.error.AuditError.{AuditError}
+use Rattle.run_audit.specs.declared.error.AuditError.TheVariants as audits
 use Rattle.hardcc_core.specs.declared.failure.Failure.{Failure}
 use Rattle.hardcc_core.specs.declared.failure.Failure.TheVariants.{Source, Image, LargeImage, Fault, LargeFault, Input, LargeInput, Shelf, Memory}
 use Rattle.hardcc_core.specs.RefusalLines.{source_line, image_line, image_too_large, fault_line, fault_too_large, input_line, input_too_large}
@@ -26,3 +30,16 @@ line_of (Input error) = input_line error
 line_of LargeInput = input_too_large
 line_of Shelf = []
 line_of Memory = []
+
+-- the status of an audit that does not pass, or that had no memory
+abbrev pub audit_status : AuditError → ℕ
+audit_status (audits.Lint address rule) = 10
+audit_status (audits.Reports step) = 10
+audit_status (audits.Misplaced step at) = 10
+audit_status audits.OutOfMemory = 9
+
+-- the status of a run that was shown whole, or not
+abbrev pub run_status : Result (Unit {0}) ShowError → ℕ
+run_status (Ok done) = 0
+run_status (Err shows.Sink) = 8
+run_status (Err shows.OutOfMemory) = 9

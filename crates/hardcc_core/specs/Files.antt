@@ -9,10 +9,11 @@ use Rattle.hard_lines.specs.declared.faults.FaultError.{FaultError}
 use Rattle.hard_lines.specs.declared.inputs.LinesError.{LinesError}
 use Rattle.hard_words.specs.declared.Change.{Change}
 use Rattle.mips_isa.specs.Image.{ImageFields}
-use Rattle.hardcc_core.specs.declared.compiler.Refusal.{Refusal}
+use Rattle.program_maker.specs.Text.{made_text}
+use Rattle.compile_chain.specs.declared.refusal.Refusal.{Refusal}
 use Rattle.hardcc_core.specs.declared.failure.Failure.{Failure}
 use Rattle.hardcc_core.specs.declared.failure.Failure.TheVariants.{Source, Image, LargeImage, Fault, LargeFault, Input, LargeInput}
-use Rattle.hardcc_core.specs.Compiled.{IsAccepted, IsRefused}
+use Rattle.compile_chain.specs.Compiled.{IsAccepted, IsRefused}
 
 -- The bytes under each name.
 abbrev pub Held : Type 0
@@ -22,20 +23,24 @@ Held = List ℕ → Option (List ℕ)
 abbrev pub Holds : Held → List ℕ → (List ℕ → Type 0) → Type 0
 Holds held name P = (bytes : List ℕ) × (held name ≡ Some bytes) × P bytes
 
--- A file, by its name and by what it is to hold: a source, an image, the numbers of an input, or one fault.
+-- A file, by its name and by what it is to hold: a source, an image, the numbers of an input, or one fault; or a made program, by its
+-- number and its size.
 pub data File : Type 0 where
   SourceFile : List ℕ → File
   ImageFile : List ℕ → File
   InputFile : List ℕ → File
   FaultFile : List ℕ → File
+  MadeFile : (number size : ℕ) → File
 
-abbrev pub name_of : File → List ℕ
-name_of (SourceFile name) = name
-name_of (ImageFile name) = name
-name_of (InputFile name) = name
-name_of (FaultFile name) = name
+-- What a file holds: what stands under its name; a made program is always there.
+abbrev pub bytes_of : Held → File → Option (List ℕ)
+bytes_of held (SourceFile name) = held name
+bytes_of held (ImageFile name) = held name
+bytes_of held (InputFile name) = held name
+bytes_of held (FaultFile name) = held name
+bytes_of held (MadeFile number size) = Some (made_text number size)
 
--- The greatest numbers of bytes of an image, of an input and of a fault; Compiled has that of a source.
+-- The greatest numbers of bytes of an image, of an input and of a fault; the compiler has that of a source.
 abbrev pub longest_image : ℕ
 longest_image = 3221225472
 
@@ -66,6 +71,7 @@ IsGood (SourceFile name) bytes = IsAccepted bytes
 IsGood (ImageFile name) bytes = (fields : ImageFields) × IsRunnable bytes fields
 IsGood (InputFile name) bytes = (numbers : List ℕ) × IsInput bytes numbers
 IsGood (FaultFile name) bytes = (change : Change) × IsFault bytes change
+IsGood (MadeFile number size) bytes = IsAccepted bytes
 
 -- The bytes are refused, and why.
 pub data IsBad (bytes : List ℕ) : File → Failure → Type 0 where
@@ -76,14 +82,21 @@ pub data IsBad (bytes : List ℕ) : File → Failure → Type 0 where
   LongInput : (name : List ℕ) → longest_input < length bytes → IsBad bytes (InputFile name) LargeInput
   BadFault : (name : List ℕ) (error : FaultError) → length bytes ≤ longest_fault → fault_of bytes ≡ Err error → IsBad bytes (FaultFile name) (Fault error)
   LongFault : (name : List ℕ) → longest_fault < length bytes → IsBad bytes (FaultFile name) LargeFault
+  BadMade : (number size : ℕ) (refusal : Refusal) → IsRefused bytes refusal → IsBad bytes (MadeFile number size) (Source refusal)
 
 -- The file is there and is good.
 abbrev pub HoldsGood : Held → File → Type 0
-HoldsGood held file = Holds held (name_of file) (IsGood file)
+HoldsGood held file = (bytes : List ℕ) × (bytes_of held file ≡ Some bytes) × IsGood file bytes
 
 -- The file is there and is refused.
 abbrev pub HoldsBad : Held → File → Failure → Type 0
-HoldsBad held file failure = Holds held (name_of file) (λ bytes. IsBad bytes file failure)
+HoldsBad held file failure = (bytes : List ℕ) × (bytes_of held file ≡ Some bytes) × IsBad bytes file failure
+
+-- What holds of the fields and the numbers of the image and the input that two names hold.
+abbrev pub HoldsRun : Held → (image input : List ℕ) → (ImageFields → List ℕ → Type 0) → Type 0
+HoldsRun held image input P =
+    Holds held image (λ bytes. (fields : ImageFields) × IsRunnable bytes fields
+    × Holds held input (λ from. (numbers : List ℕ) × IsInput from numbers × P fields numbers))
 
 -- Files are read in order: one is come to only where all before it are there and good. All are good;
 abbrev pub AreGood : Held → List File → Type 0
@@ -93,7 +106,7 @@ AreGood held (file ∷ files) = HoldsGood held file × AreGood held files
 -- or one that is come to isn't there;
 abbrev pub LacksOne : Held → List File → Type 0
 LacksOne held [] = ⊥
-LacksOne held (file ∷ files) = (held (name_of file) ≡ None) ⊎ (HoldsGood held file × LacksOne held files)
+LacksOne held (file ∷ files) = (bytes_of held file ≡ None) ⊎ (HoldsGood held file × LacksOne held files)
 
 -- or one that is come to is refused.
 abbrev pub HasBad : Held → List File → Failure → Type 0

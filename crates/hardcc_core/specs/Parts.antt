@@ -4,12 +4,13 @@ use Rattle.hard_shelf.specs.Outside.{SameNames, SameOthers, AppendsPart}
 use Rattle.hard_shelf.specs.declared.sink.SinkFault.{SinkFault}
 use Rattle.hardcc_core.specs.declared.failure.Failure.{Failure}
 use Rattle.hardcc_core.specs.declared.failure.Failure.TheVariants.{Source, Shelf, Memory}
-use Rattle.hardcc_core.specs.declared.compiler.Refusal.{Refusal}
+use Rattle.compile_chain.specs.declared.refusal.Refusal.{Refusal}
 use Rattle.hardcc_core.specs.Commands.{Command}
-use Rattle.hardcc_core.specs.Compiled.{IsRefused}
+use Rattle.compile_chain.specs.Compiled.{IsRefused}
 use Rattle.hardcc_core.specs.Failures.{status_of}
 use Rattle.hardcc_core.specs.Files.{Held, File, LacksOne, HasBad}
-use Rattle.hardcc_core.specs.Outcomes.{Misses, Refuses, Accepts, Puts, Done, Says, IsRefusal}
+use Rattle.run_audit.specs.declared.error.AuditError.{AuditError}
+use Rattle.hardcc_core.specs.Outcomes.{Misses, Refuses, Accepts, IsAudit, IsEval, FailsAudit, Audited, Puts, Done, Says, IsRefusal}
 
 -- A failure of the shelf or of memory says nothing of what is held; any other is a refusal.
 abbrev pub Explains : (Failure → Type 0) → Failure → Type 0
@@ -37,22 +38,27 @@ pub data Said (tells : Type 0) (before after : List ℕ) (rose : Type 0) (text :
 -- `told` and `tells` say that the shelf and the sink tell what they hold; `shelf` and `sink` that the count of each rose.
 pub record Leaves (told : Type 0) (old new : Held) (shelf : Type 0) (tells : Type 0) (before after : List ℕ) (sink : Type 0)
     (command : Option Command) (status : ℕ) : Type 0 where
-  pub statuses : (status ≡ 0) ⊎ (status ≡ 2) ⊎ IsRefusal status ⊎ (status ≡ 7) ⊎ (status ≡ 8) ⊎ (status ≡ 9)
+  pub statuses : (status ≡ 0) ⊎ (status ≡ 2) ⊎ IsRefusal status ⊎ (status ≡ 7) ⊎ (status ≡ 8) ⊎ (status ≡ 9) ⊎ (status ≡ 10)
   pub done : status ≡ 0 → told → Done old new command
+  pub audited : status ≡ 0 → told → Audited old command
   pub complete : told → Accepts old command → (shelf → ⊥) → (sink → ⊥) → (status ≡ 0) ⊎ (status ≡ 9)
   pub usage : status ≡ 2 → command ≡ None
   pub no_command : command ≡ None → (status ≡ 2) ⊎ (status ≡ 8)
   pub refused : IsRefusal status → told → (failure : Failure) × (status_of failure ≡ status) × Refuses old command failure
   pub refuses : (failure : Failure) → told → Refuses old command failure → (status ≡ status_of failure) ⊎ (status ≡ 7) ⊎ (status ≡ 8) ⊎ (status ≡ 9)
+  pub only_audits : status ≡ 10 → IsAudit command
+  pub failed_audit : status ≡ 10 → told → (error : AuditError) × FailsAudit old command error
+  pub fails_audit : (error : AuditError) → told → FailsAudit old command error → (status ≡ 10) ⊎ (status ≡ 7) ⊎ (status ≡ 8) ⊎ (status ≡ 9)
   pub shelf_fault : status ≡ 7 → shelf ⊎ (told × Misses old command)
   pub sink_fault : status ≡ 8 → sink
   pub others : told → (name : List ℕ) → (Puts command name → ⊥) → new name ≡ old name
-  pub nothing_put : (status ≡ 2) ⊎ IsRefusal status ⊎ (status ≡ 9) → told → SameNames old new
+  pub nothing_put : (status ≡ 2) ⊎ IsRefusal status ⊎ (status ≡ 9) ⊎ (status ≡ 10) → told → SameNames old new
   pub unless_accepted : told → (Accepts old command → ⊥) → SameNames old new
   pub put_unless_refused : status ≡ 8 → told → SameNames old new ⊎ Done old new command
-  pub said : (status ≡ 0) ⊎ (status ≡ 2) ⊎ IsRefusal status → told → tells → (text : List ℕ) × Says old command text × (after ≡ before ++ text)
-  pub part_said : status ≡ 8 → told → tells → (text : List ℕ) × Says old command text × AppendsPart before after text
-  pub silent : (status ≡ 7) ⊎ (status ≡ 9) → tells → after ≡ before
+  pub said : (status ≡ 0) ⊎ (status ≡ 2) ⊎ IsRefusal status ⊎ (status ≡ 10) → told → tells → (text : List ℕ) × Says old new command text × (after ≡ before ++ text)
+  pub part_said : status ≡ 8 → told → tells → (text : List ℕ) × Says old new command text × AppendsPart before after text
+  pub silent : (status ≡ 7) ⊎ ((status ≡ 9) × (IsEval command → ⊥)) → tells → after ≡ before
+  pub begun : status ≡ 9 → told → tells → (after ≡ before) ⊎ ((text : List ℕ) × Says old new command text × AppendsPart before after text)
 
 -- A file was put under a name, and a line written after it.
 pub record PutsAndSays (told : Type 0) (old new : Held) (shelf_rose : Type 0) (tells : Type 0) (before after : List ℕ) (sink_rose : Type 0)

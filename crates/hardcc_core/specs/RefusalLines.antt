@@ -10,9 +10,12 @@ use Rattle.c_lexer.specs.declared.error.LexError.TheVariants as lexer
 use Rattle.c_lexer.specs.declared.error.LexError.TheVariants.{BadToken, LiteralTooLarge, CommentOpen}
 use Rattle.c_parser.specs.declared.program.ParseError.TheVariants as parser
 use Rattle.c_parser.specs.declared.program.ParseError.TheVariants.{NoProgram}
-use Rattle.hardcc_core.specs.declared.compiler.Refusal.{Refusal}
-use Rattle.hardcc_core.specs.declared.compiler.Refusal.TheVariants as refusals
-use Rattle.hardcc_core.specs.declared.compiler.Refusal.TheVariants.{TooLong, Lex, Parse, NotYet}
+use Rattle.compile_chain.specs.declared.refusal.Refusal.{Refusal}
+use Rattle.compile_chain.specs.declared.refusal.Refusal.TheVariants as refusals
+use Rattle.compile_chain.specs.declared.refusal.Refusal.TheVariants.{TooLong, Lex, Parse, Check}
+use Rattle.check_rules.specs.declared.error.CheckError.TheVariants as checker
+use Rattle.check_rules.specs.declared.error.CheckKind.{CheckKind}
+use Rattle.check_rules.specs.declared.error.CheckKind.TheVariants as kinds
 use Rattle.hard_lines.specs.declared.inputs.LinesError.TheVariants.{BadNumber, TooMany, OutOfMemory as NoMemory}
 
 -- a cause, with how many bytes it needs and how many there are
@@ -58,6 +61,29 @@ fault_too_large = line (codes "fault refused: too large")
 unfoldable pub source_line_at : List ℕ → ℕ → List ℕ
 source_line_at kind at = line (codes "source refused: " ++ kind ++ codes " at " ++ decimal at)
 
+-- The name of a fault of names, types or sizes.
+unfoldable pub kind_name : CheckKind → List ℕ
+kind_name kinds.NameTwice = codes "NameTwice"
+kind_name kinds.PrototypeDiffers = codes "PrototypeDiffers"
+kind_name kinds.BadLength = codes "BadLength"
+kind_name kinds.NotConstant = codes "NotConstant"
+kind_name kinds.TooManyInitialisers = codes "TooManyInitialisers"
+kind_name kinds.NameUnknown = codes "NameUnknown"
+kind_name kinds.NotAFunction = codes "NotAFunction"
+kind_name kinds.NotAnArray = codes "NotAnArray"
+kind_name kinds.NotScalar = codes "NotScalar"
+kind_name kinds.ArgCount = codes "ArgCount"
+kind_name kinds.VoidUsed = codes "VoidUsed"
+kind_name kinds.NotAssignable = codes "NotAssignable"
+kind_name kinds.BadReturn = codes "BadReturn"
+kind_name kinds.BreakOutside = codes "BreakOutside"
+kind_name kinds.CaseTwice = codes "CaseTwice"
+kind_name kinds.NoBody = codes "NoBody"
+kind_name kinds.NoMain = codes "NoMain"
+kind_name kinds.FrameTooLarge = codes "FrameTooLarge"
+kind_name kinds.TooManyBlocks = codes "TooManyBlocks"
+kind_name kinds.StoreTooLarge = codes "StoreTooLarge"
+
 -- Why a source is refused; nothing is said of want of memory.
 unfoldable pub source_line : Refusal → List ℕ
 source_line TooLong = line (codes "source refused: TooLong")
@@ -67,5 +93,6 @@ source_line (Lex (CommentOpen at)) = source_line_at (codes "CommentOpen") at
 source_line (Lex lexer.OutOfMemory) = []
 source_line (Parse (NoProgram at)) = source_line_at (codes "NoProgram") at
 source_line (Parse parser.OutOfMemory) = []
-source_line NotYet = line (codes "source refused: NotYet")
+source_line (Check (checker.Fault kind at)) = source_line_at (kind_name kind) at
+source_line (Check checker.OutOfMemory) = []
 source_line refusals.OutOfMemory = []

@@ -3,15 +3,15 @@
 ghost use Rattle.std.specs.Prelude.{◌≡◌, ◌≤◌, [], ◌∷◌, Some, IsTrue, IfOk, IfErr, IsErrOf};
 ghost use Rattle.hard_shelf.specs.Outside.{Rose, SameNames};
 ghost use Rattle.hardcc_core.specs.Commands.{Compile};
-ghost use Rattle.hardcc_core.specs.Compiled.{IsAccepted, IsCompiled, IsRefused};
+ghost use Rattle.compile_chain.specs.Compiled.{IsAccepted, IsCompiled, IsRefused};
 ghost use Rattle.hardcc_core.specs.Files.{Holds, SourceFile};
 ghost use Rattle.hardcc_core.specs.Parts.{Leaves, Reads, RefusesBytes};
 
 use crate::command::CompileWords;
-use crate::compiler::{LONGEST_SOURCE, Refusal, compile};
 use crate::failure::{Failure, report};
 use crate::put_file::put_and_say;
 use crate::take::take_file;
+use compile_chain::{LONGEST_SOURCE, Refusal, compile};
 use elf_image::write_image;
 use hard_shelf::{Shelf, Sink};
 use hard_words::OutOfMemory;

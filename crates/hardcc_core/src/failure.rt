@@ -5,11 +5,11 @@ ghost use Rattle.hard_shelf.specs.Outside.{Rose};
 ghost use Rattle.hardcc_core.specs.Failures.{line_of, status_of};
 ghost use Rattle.hardcc_core.specs.Parts.{Said};
 
-use crate::compiler::Refusal;
 use crate::refusal_lines::{
     fault_line, fault_too_large, image_line, image_too_large, input_line, input_too_large,
     source_line,
 };
+use compile_chain::Refusal;
 use elf_image::ImageError;
 use hard_lines::{FaultError, LinesError};
 use hard_shelf::{Sink, SinkFault};
@@ -21,8 +21,14 @@ pub(crate) const DONE: u8 = 0;
 /// The status of a call whose words are no command.
 pub(crate) const USAGE: u8 = 2;
 
+/// The status of an audit that does not pass.
+pub(crate) const NOT_PASSED: u8 = 10;
+
 /// The status of a call whose sink failed.
 pub(crate) const SINK_FAULT: u8 = 8;
+
+/// The status of a call that had no memory.
+pub(crate) const NO_MEMORY: u8 = 9;
 
 /// Why a command is not done.
 #[derive(Clone, Copy, Debug, PartialEq, Eq)]
@@ -72,7 +78,7 @@ pub(crate) fn report<O: Sink>(out: &mut O, failure: Failure) -> u8
         Failure::Input(error) => say(out, input_line(error).as_slice(), 6),
         Failure::LargeInput => say(out, input_too_large(), 6),
         Failure::Shelf => 7,
-        Failure::Memory => 9,
+        Failure::Memory => NO_MEMORY,
     }
 }
 

@@ -1,4 +1,4 @@
-//! The words `make NUMBER SIZE OUT`.
+//! The words `make NUMBER SIZE OUT` and `selfrun NUMBER SIZE STEPS`.
 
 ghost use Rattle.std.specs.Prelude.{◌≤◌};
 
@@ -11,6 +11,19 @@ pub(crate) struct MakeWords<'a> {
     pub(crate) size: u32,
     /// The name of the program, which is put.
     pub(crate) out: &'a str,
+    ghost least: { 1 ≤ size },
+    ghost most: { size ≤ 1000 },
+}
+
+/// The words `selfrun NUMBER SIZE STEPS`.
+#[derive(Drop)]
+pub(crate) struct SelfRunWords {
+    /// The number that the program follows from.
+    pub(crate) number: u64,
+    /// How many functions it has beside `main`, 1 to 1,000.
+    pub(crate) size: u32,
+    /// How many steps are made at most, 0 to 10,000,000.
+    pub(crate) steps: u64,
     ghost least: { 1 ≤ size },
     ghost most: { size ≤ 1000 },
 }

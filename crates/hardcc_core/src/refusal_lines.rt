@@ -2,12 +2,13 @@
 
 ghost use Rattle.std.specs.Prelude.{◌≡◌, ◌+◌, ◌≤◌, ◌++◌, length, decimal};
 ghost use Rattle.fault_replay.specs.Show.{line};
-ghost use Rattle.hardcc_core.specs.RefusalLines.{source_line, need_and_have, image_line, image_too_large, fault_line, fault_too_large, input_line, input_too_large, source_line_at};
+ghost use Rattle.hardcc_core.specs.RefusalLines.{source_line, need_and_have, image_line, image_too_large, fault_line, fault_too_large, input_line, input_too_large, source_line_at, kind_name};
 
-use crate::compiler::Refusal;
 use arrayvec::ArrayVec;
 use c_lexer::LexError;
 use c_parser::ParseError;
+use check_rules::{CheckError, CheckKind};
+use compile_chain::Refusal;
 use elf_image::ImageError;
 use fault_replay::{Line, put, put_number};
 use hard_lines::{FaultError, LinesError};
@@ -104,10 +105,41 @@ pub(crate) fn source_line(refusal: Refusal) -> Line
         Refusal::Lex(LexError::LiteralTooLarge { at }) => source_line_at(b"LiteralTooLarge", at),
         Refusal::Lex(LexError::CommentOpen { at }) => source_line_at(b"CommentOpen", at),
         Refusal::Parse(ParseError::NoProgram { at }) => source_line_at(b"NoProgram", at),
-        Refusal::NotYet => plain_line(b"source refused: NotYet"),
+        Refusal::Check(CheckError::Fault { kind, at }) => source_line_at(kind_name(kind), at),
         Refusal::Lex(LexError::OutOfMemory)
         | Refusal::Parse(ParseError::OutOfMemory)
+        | Refusal::Check(CheckError::OutOfMemory)
         | Refusal::OutOfMemory => ArrayVec::new(),
+    }
+}
+
+/// The name of a fault of names, types or sizes.
+#[tactic(auto, unfolding(crate::specs::RefusalLines::kind_name))]
+fn kind_name(kind: CheckKind) -> &'static [u8]
+    ensures name { result.now ≡ kind_name kind }
+    ensures short { length result.now ≤ 32 }
+{
+    match kind {
+        CheckKind::NameTwice => b"NameTwice",
+        CheckKind::PrototypeDiffers => b"PrototypeDiffers",
+        CheckKind::BadLength => b"BadLength",
+        CheckKind::NotConstant => b"NotConstant",
+        CheckKind::TooManyInitialisers => b"TooManyInitialisers",
+        CheckKind::NameUnknown => b"NameUnknown",
+        CheckKind::NotAFunction => b"NotAFunction",
+        CheckKind::NotAnArray => b"NotAnArray",
+        CheckKind::NotScalar => b"NotScalar",
+        CheckKind::ArgCount => b"ArgCount",
+        CheckKind::VoidUsed => b"VoidUsed",
+        CheckKind::NotAssignable => b"NotAssignable",
+        CheckKind::BadReturn => b"BadReturn",
+        CheckKind::BreakOutside => b"BreakOutside",
+        CheckKind::CaseTwice => b"CaseTwice",
+        CheckKind::NoBody => b"NoBody",
+        CheckKind::NoMain => b"NoMain",
+        CheckKind::FrameTooLarge => b"FrameTooLarge",
+        CheckKind::TooManyBlocks => b"TooManyBlocks",
+        CheckKind::StoreTooLarge => b"StoreTooLarge",
     }
 }
 

@@ -1,8 +1,6 @@
 -- The image of a signed program.
-use Rattle.std.proofs.Common.{◌≡◌, ◌≢◌, ◌≤◌, ◌<◌, ℕ, ◌+◌, ◌*◌, arith, ap, refl, sym, ◌∙◌, subst, List, length, map, inl, inr}
-use Rattle.std.specs.Prelude.{Result, Ok, Err, IfOk, All, None}
-use Rattle.hard_words.specs.Observed.{SameObserved}
-use Rattle.hard_words.specs.Words.{AreWords}
+use Rattle.std.proofs.Common.{◌≡◌, ◌≤◌, ◌<◌, ℕ, ◌+◌, ◌*◌, arith, ap, refl, sym, ◌∙◌, subst, List, length, inl, inr}
+use Rattle.std.specs.Prelude.{All, None}
 use Rattle.hard_words.proofs.Observed.{same_transitive}
 use Rattle.mips_isa.specs.declared.instr.End.{End}
 use Rattle.mips_isa.specs.Runs.{observed}
@@ -23,13 +21,13 @@ use Rattle.layout_law.specs.Typed.{WordsAreTyped}
 use Rattle.layout_law.proofs.Texts.{length_text}
 use Rattle.window_lister.specs.WindowList.{AreWindows, Before, pair_at}
 use Rattle.image_fits.specs.Law.{PreparedHasStarts}
+use Rattle.reached_words.specs.Reached.{NoWordIsDead}
 use Rattle.layout_counts.specs.Counted.{WindowsOnce, WindowsAreFew}
 use Rattle.alias_lister.specs.Aliases as blocks
-use Rattle.harden_law.specs.Laws.{image_with, RunsAs, WordsAreHardened, WordsRunAs, WordsHaveWays}
-use Rattle.harden_law.specs.Hardened.{AreAliases, IsHardened}
+use Rattle.harden_law.specs.Laws.{image_with, WordsAreHardened, WordsRunAs, WordsHaveWays}
+use Rattle.harden_law.specs.Hardened.{AreAliases}
 use Rattle.harden_chain.specs.Image.{IsImageOf, most_blocks}
 use Rattle.harden_chain.specs.Steps.{IsSignedOf, IsImageOfSigned, addressed}
-use Rattle.harden_chain.proofs.Results.{for_ok}
 use Rattle.harden_chain.proofs.Lists.{text_aliases, pairs_there}
 
 -- a text that keeps the rules breaks none
@@ -73,8 +71,8 @@ once t ws w = record { near = w.sound; once = λ j k h l e. same (pair_at ws j) 
 pub image_made : (s : Signed) (i : ImageFields) (starts : List ℕ) (pairs windows aliases : List (ℕ × ℕ)) (rows : List TypingRow) (t : List ℕ) → Prepared s → Guarded s.program →
     i ≡ record { entry = 0x00400000; text = t; initial = s.program.initial; memory_words = s.program.memory_words; windows = windows; aliases = aliases } →
     t ≡ text (headed s) → starts ≡ addresses (headed s) → blocks.AreAliases s pairs → AreWindows t windows → AreRows t 4194304 rows → aliases ≡ addressed starts pairs →
-    WordsAreHardened → WordsRunAs → WordsHaveWays → StartsAreBlocks → TextLength → WindowsAreFew → PreparedHasStarts → IsImageOfSigned s i
-image_made s i starts pairs windows aliases rows t p g e f st a w r al hardened runs ways at long few begins = subst (IsImageOfSigned s) (sym (e ∙ whole)) made
+    WordsAreHardened → WordsRunAs → WordsHaveWays → StartsAreBlocks → TextLength → WindowsAreFew → NoWordIsDead → PreparedHasStarts → IsImageOfSigned s i
+image_made s i starts pairs windows aliases rows t p g e f st a w r al hardened runs ways at long few alive begins = subst (IsImageOfSigned s) (sym (e ∙ whole)) made
   where
     whole : ◌≡◌ {A = ImageFields} (record { entry = 0x00400000; text = t; initial = s.program.initial; memory_words = s.program.memory_words; windows = windows; aliases = aliases }) (image_with s windows aliases)
     whole = ap (λ (l : List ℕ). record { entry = 0x00400000; text = l; initial = s.program.initial; memory_words = s.program.memory_words; windows = windows; aliases = aliases }) f
@@ -92,6 +90,7 @@ image_made s i starts pairs windows aliases rows t p g e f st a w r al hardened 
       memory = refl;
       words = long s p.laying.marks ∙ ap (λ (n : ℕ). words s.program.blocks + 7 * n) p.signs.one_each;
       few_windows = few s windows p.laying g (once (text (headed s)) windows (subst (λ (l : List ℕ). AreWindows l windows) f w));
+      no_dead_words = alive s p.laying;
       starts = λ n h. begins s windows aliases n p h;
     }
 
@@ -107,6 +106,7 @@ image_of_program p s i g m = record {
   memory = m.memory ∙ g.memory;
   words = subst (λ (n : ℕ). n ≤ room p) (sym m.words) g.words_within;
   few_windows = m.few_windows;
+  no_dead_words = m.no_dead_words;
   place = address (headed s);
   starts = m.starts (most_blocks p) g.few;
 }

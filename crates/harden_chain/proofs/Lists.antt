@@ -1,23 +1,19 @@
 -- The lists of an image, from the windows of its text and the aliases of its blocks.
-use Rattle.std.proofs.Common.{◌≡◌, ◌≢◌, ◌≤◌, ◌<◌, ℕ, zero, suc, ◌+◌, ◌-◌, ◌*◌, arith, ap, refl, sym, ◌∙◌, subst, List, [], ◌∷◌, length, map, inl, inr}
-use Rattle.std.specs.Prelude.{◌↔◌, ◌⊎◌, Contains, All, get_or, slice_index, None}
-use Rattle.std.specs.List.{range_with_len}
+use Rattle.std.proofs.Common.{◌≡◌, ◌≤◌, ◌<◌, ℕ, zero, suc, ◌+◌, ◌-◌, ◌*◌, arith, ap, refl, sym, ◌∙◌, subst, List, [], ◌∷◌, length, map, inl, inr}
+use Rattle.std.specs.Prelude.{Contains, All, get_or, slice_index}
 use Rattle.std.proofs.lemmas.List.FromFn.{length-map-range_with_len, get_or-map-range_with_len}
 use Rattle.std.proofs.lemmas.Option.{slice_get-get_or, get_or_from_slice_get}
 use Rattle.std.proofs.lemmas.List.{get_or-map}
 use Rattle.mips_isa.specs.Blocks as text_blocks
 use Rattle.mips_isa.specs.Blocks.{IsStart, Head, HeadAt, carried}
 use Rattle.hard_code.specs.declared.code.Signed.{Signed}
-use Rattle.hard_code.specs.declared.code.HardProgram.{HardProgram}
 use Rattle.hard_code.specs.Heads.{headed}
 use Rattle.hard_code.specs.Ways.{MayFollow}
-use Rattle.hard_code.specs.WellFormed.{WellFormed}
 use Rattle.hard_code.specs.Run.{items_of}
-use Rattle.sign_law.specs.Graph.{IsSucc}
 use Rattle.sign_law.specs.Marks.{HasSigns, successors_of, head_of}
 use Rattle.sign_law.specs.Signs.{IsLaid, head_at}
 use Rattle.signature_assign.proofs.Premises.{follows_succ, succ_follows, long_map}
-use Rattle.layout_law.specs.Layout.{words, address, addresses, text}
+use Rattle.layout_law.specs.Layout.{address, addresses, text}
 use Rattle.layout_law.specs.Level.{Laying}
 use Rattle.layout_law.specs.Laws.{StartsAreBlocks}
 use Rattle.layout_law.proofs.Texts.{address_next}

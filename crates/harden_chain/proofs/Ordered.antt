@@ -1,14 +1,14 @@
 -- What the passes over items leave, put one behind the other.
-use Rattle.std.proofs.Common.{◌≡◌, ◌≤◌, ◌<◌, ℕ, ◌+◌, ◌*◌, arith, ap, refl, sym, ◌∙◌, subst, List, length, inr}
+use Rattle.std.proofs.Common.{◌≡◌, ◌≤◌, ℕ, ◌+◌, ◌*◌, arith, ap, sym, ◌∙◌, subst, length, inr}
 use Rattle.std.specs.Prelude.{sum_by, Result, IfOk}
 use Rattle.hard_words.proofs.Observed.{same_transitive}
 use Rattle.mips_isa.specs.declared.instr.End.{End}
 use Rattle.hard_code.specs.declared.code.HardProgram.{HardProgram}
 use Rattle.hard_code.specs.declared.code.Signed.{Signed}
 use Rattle.hard_code.specs.Heads.{headed}
-use Rattle.hard_code.specs.Run.{item_run, items_of}
+use Rattle.hard_code.specs.Run.{item_run}
 use Rattle.hard_code.specs.Rules.{Apart, Guarded, NeverReports, Twin}
-use Rattle.hard_code.specs.Counts.{Calm, branches, free_nops, room}
+use Rattle.hard_code.specs.Counts.{Calm, branches, room}
 use Rattle.block_laws.specs.Runs.{SameRuns}
 use Rattle.block_laws.specs.Counted.{HasNoFreeNop}
 use Rattle.hard_code.specs.WellFormed.{WellFormed}
@@ -17,11 +17,9 @@ use Rattle.compare_pass.specs.Law.{SameCounts}
 use Rattle.block_schedule.specs.Scheduling.{scheduled_program}
 use Rattle.block_schedule.specs.Law.{KeepsCounts}
 use Rattle.sign_law.specs.Marks.{HasSigns}
-use Rattle.layout_law.specs.Layout.{words, address, text}
-use Rattle.layout_law.specs.Level.{AllReach}
+use Rattle.layout_law.specs.Layout.{words, text}
 use Rattle.layout_law.proofs.Texts.{length_text}
 use Rattle.layout_law.proofs.Signed.{text_length}
-use Rattle.layout_law.specs.Laws.{Prepared}
 use Rattle.code_layout.specs.Widen.{widened}
 use Rattle.widen_law.specs.Law as wide
 use Rattle.widen_law.specs.Law.{WidenedKeepsRuns, WidenedKeepsCounts, WidenedReaches}

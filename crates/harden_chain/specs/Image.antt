@@ -10,6 +10,7 @@ use Rattle.hard_code.specs.Run.{item_run}
 use Rattle.hard_code.specs.Counts.{branches, room}
 use Rattle.harden_law.specs.Hardened.{IsHardened}
 use Rattle.image_fits.specs.Law.{HasStarts}
+use Rattle.reached_words.specs.Reached.{NoDeadWords}
 
 -- The most blocks that a program can come to, one more for each branch.
 abbrev pub most_blocks : HardProgram → ℕ
@@ -26,6 +27,8 @@ pub record IsImageOf (p : HardProgram) (i : ImageFields) : Type 0 where
   pub memory : i.memory_words ≡ p.memory_words
   pub words : length i.text ≤ room p
   pub few_windows : length i.windows ≤ length i.text
+  -- each word that neither begins a block nor is a break has a word before it
+  pub no_dead_words : NoDeadWords i.text i.entry
   -- its blocks start at some of so many places of the text
   pub place : ℕ → ℕ
   pub starts : HasStarts i (most_blocks p) place

@@ -5,12 +5,11 @@ use Rattle.hard_code.specs.declared.code.Signed.{Signed}
 use Rattle.hard_code.specs.Rules.{Apart, Guarded, NeverReports}
 use Rattle.hard_code.specs.Counts.{Calm, branches, room}
 use Rattle.block_laws.specs.Runs.{SameRuns}
-use Rattle.code_layout.specs.Widen.{widened}
-use Rattle.sign_law.specs.Marks.{HasSigns}
 use Rattle.mips_isa.specs.Image.{ImageFields}
 use Rattle.harden_law.specs.Hardened.{IsHardened}
 use Rattle.harden_law.specs.Laws.{RunsAs}
 use Rattle.image_fits.specs.Law.{HasStarts}
+use Rattle.reached_words.specs.Reached.{NoDeadWords}
 use Rattle.hard_code.specs.Heads.{headed}
 use Rattle.layout_law.specs.Layout.{words, address}
 use Rattle.layout_law.specs.Laws.{Prepared}
@@ -52,4 +51,5 @@ pub record IsImageOfSigned (s : Signed) (i : ImageFields) : Type 0 where
   pub memory : i.memory_words ≡ s.program.memory_words
   pub words : length i.text ≡ words s.program.blocks + 7 * length s.program.blocks
   pub few_windows : length i.windows ≤ length i.text
+  pub no_dead_words : NoDeadWords i.text i.entry
   pub starts : (n : ℕ) → length s.program.blocks ≤ n → HasStarts i n (address (headed s))

@@ -25,6 +25,7 @@ use harden_lint::{LintError, lint};
 use image_fits::prepared_has_starts;
 use layout_counts::windows_are_few;
 use layout_law::{starts_are_blocks, text_length, words_are_typed};
+use reached_words::no_word_is_dead;
 use std::alloc::Global;
 use window_lister::windows;
 
@@ -75,6 +76,7 @@ fn image_of(alloc: Global, signed: Signed) -> Result<Image, OutOfMemory>
     starts_are_blocks();
     text_length();
     windows_are_few();
+    no_word_is_dead();
     prepared_has_starts();
     let pairs = aliases(alloc, &signed)?;
     let laid = layout(alloc, &signed)?;

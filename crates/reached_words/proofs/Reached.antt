@@ -161,4 +161,4 @@ module _ (s : Signed) (l : Laying s) where
       by (one front d e) = choose front d e (is_break d.instr) refl
 
 pub no_word_is_dead : NoWordIsDead
-no_word_is_dead s a l h n b = reached s l a h n b
+no_word_is_dead s l a h n b = reached s l a h n b

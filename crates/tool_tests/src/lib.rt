@@ -2,4 +2,18 @@
 #![tactic(auto)]
 
 #[cfg(test)]
+mod audits;
+#[cfg(test)]
+mod campaigns;
+#[cfg(test)]
+mod checking;
+#[cfg(test)]
 mod commands;
+#[cfg(test)]
+mod evals;
+#[cfg(test)]
+mod images;
+#[cfg(test)]
+mod programs;
+#[cfg(test)]
+mod self_runs;

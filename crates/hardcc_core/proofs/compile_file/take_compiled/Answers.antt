@@ -1,7 +1,7 @@
 use Rattle.std.proofs.Common.{◌∙◌, Some, Err, ap, sym}
-use Rattle.hardcc_core.specs.declared.compiler.Refusal.TheVariants.{TooLong}
+use Rattle.compile_chain.specs.declared.refusal.Refusal.TheVariants.{TooLong}
 use Rattle.hardcc_core.specs.declared.failure.Failure.TheVariants.{Source}
-use Rattle.hardcc_core.specs.Compiled.{IsAccepted, IsCompiled, longest_source}
+use Rattle.compile_chain.specs.Compiled.{IsAccepted, IsCompiled, longest_source}
 use Rattle.hardcc_core.specs.Files.{SourceFile, BadSource}
 use Rattle.hardcc_core.proofs.Reading.{none_reads, compiled_reads}
 use Rattle.hardcc_core.proofs.compile_file.take_compiled.Goals as goal

@@ -16,6 +16,6 @@ returns-in-Ok g c =
     let is = c.in-Ok.ensures.reads.ok in
     done_call (IsTrue (g.H.Shelf.tells c.args.shelf.now)) (g.H.Shelf.held c.args.shelf.now) _ _ _ (g.O.Sink.written c.args.out.now) (g.O.Sink.written c.write_pairs.new.out) _ (ListPairs c.args.words.now.image.now)
     (pair_lines (fields_of c.in-Ok.image)) c.write_pairs.result c.status_of_text.result c.in-Ok.ensures.same
-    (λ t. (((is t).0, (is t).1, (fields_of c.in-Ok.image, (is t).2)), tt)) (λ t. tt)
+    (λ t. ((((is t).0, (is t).1, (fields_of c.in-Ok.image, (is t).2)), tt), tt)) (λ t. tt) (λ t. tt)
     (λ t. ((is t).0, (is t).1, (fields_of c.in-Ok.image, (is t).2, refl)))
     c.write_pairs.ensures.writes c.status_of_text.ensures

@@ -25,7 +25,8 @@ returns-in-Ok-booted g c =
     let change : Change = c.in-Ok.change in
     done_call (IsTrue (g.H.Shelf.tells c.args.shelf.now)) (g.H.Shelf.held c.args.shelf.now) _ _ _ (g.O.Sink.written c.args.out.now) (g.O.Sink.written c.replay.new.out) _
     (RunChanged w.image.now w.input.now w.steps w.fault.now) (shown (run (state_of c.in-Ok-booted.machine) (Some change) w.steps)) c.replay.result c.status_of_text.result c.in-Ok.ensures.same
-    (λ t. (((is t).0.0.0, (is t).0.0.1, (fields, (is t).0.0.2)), (((is t).0.1.0, (is t).0.1.1, (numbers, (is t).0.1.2)), (((is t).1.0, (is t).1.1, (change, (is t).1.2)), tt))))
+    (λ t. ((((is t).0.0.0, (is t).0.0.1, (fields, (is t).0.0.2)), (((is t).0.1.0, (is t).0.1.1, (numbers, (is t).0.1.2)), (((is t).1.0, (is t).1.1, (change, (is t).1.2)), tt))), tt))
+    (λ t. tt)
     (λ t. tt)
     (λ t. (
       (is t).1.0,

@@ -22,7 +22,8 @@ returns-in-Ok-booted g c =
     let numbers : List ℕ = c.in-Ok.loaded.feed.items in
     done_call (IsTrue (g.H.Shelf.tells c.args.shelf.now)) (g.H.Shelf.held c.args.shelf.now) _ _ _ (g.O.Sink.written c.args.out.now) (g.O.Sink.written c.replay.new.out) _
     (Run w.image.now w.input.now w.steps) (shown (run (state_of c.in-Ok-booted.machine) None w.steps)) c.replay.result c.status_of_text.result c.in-Ok.ensures.same
-    (λ t. (((is t).0.0, (is t).0.1, (fields, (is t).0.2)), (((is t).1.0, (is t).1.1, (numbers, (is t).1.2)), tt)))
+    (λ t. ((((is t).0.0, (is t).0.1, (fields, (is t).0.2)), (((is t).1.0, (is t).1.1, (numbers, (is t).1.2)), tt)), tt))
+    (λ t. tt)
     (λ t. tt)
     (λ t. ((is t).0.0, (is t).0.1, (fields, (is t).0.2, ((is t).1.0, (is t).1.1, (numbers, (is t).1.2, ap (λ (s : State). shown (run s None w.steps)) c.in-Ok-booted.ensures)))))
     (record { ok = c.replay.ensures.ok; fault = c.replay.ensures.fault; part = c.replay.ensures.part }) c.status_of_text.ensures

@@ -1,4 +1,4 @@
-use Rattle.std.proofs.Common.{◌≡◌, sym, ◌∙◌, ap}
+use Rattle.std.proofs.Common.{◌∙◌, ap}
 use Rattle.std.specs.Prelude.{Err}
 use Rattle.harden_chain.proofs.Images.{never_bad}
 use Rattle.harden_chain.proofs.image.listed.Goals as goal

@@ -1,0 +1,3 @@
+pub mod Stacked
+pub mod Entering
+pub mod Turning

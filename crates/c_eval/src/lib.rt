@@ -1,0 +1,9 @@
+//! The interpreter of checked programs, with a stack of its own.
+#![tactic(auto)]
+
+mod evaluator;
+mod machine;
+mod turn;
+
+pub use evaluator::Evaluator;
+pub use turn::Turn;

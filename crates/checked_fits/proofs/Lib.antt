@@ -1,0 +1,9 @@
+mod Ascends
+mod Layers
+mod FitExpressions
+mod Inside
+mod FitStatements
+mod Constants
+mod FitGlobals
+mod FitFunctions
+mod FitPrograms

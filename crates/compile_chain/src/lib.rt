@@ -1,0 +1,10 @@
+//! The compiler: from the bytes of a C text to a hardened image.
+#![tactic(auto)]
+
+mod compiler;
+mod laws;
+mod refusal;
+
+pub use compiler::{LONGEST_SOURCE, checked_source, compile};
+pub use laws::names_agree;
+pub use refusal::Refusal;

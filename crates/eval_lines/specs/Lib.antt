@@ -1,0 +1,2 @@
+pub mod EvalLines
+pub mod Turns

@@ -1,0 +1,7 @@
+use Rattle.std.proofs.Common.{◌≡◌, ◌+◌, map, drop}
+use Rattle.lowering_law.specs.Statements.{low_local, list_blocks}
+use Rattle.lower_emit.specs.Names.{names_of}
+use Rattle.lower_statements.proofs.counts.local_blocks.Given as goal
+
+abbrev pub invariant-loop-d : goal.invariant-loop-d
+invariant-loop-d l = l.count + list_blocks (map (low_local (names_of l.table)) (drop l.d-index l.locals)) ≡ list_blocks (map (low_local (names_of l.table)) l.locals)

@@ -1,0 +1,5 @@
+pub mod Parts
+pub mod Joined
+pub mod Known
+pub mod Numbers
+pub mod Counted

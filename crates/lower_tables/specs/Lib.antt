@@ -1,0 +1,4 @@
+pub mod Parts
+pub mod Files
+pub mod Stands
+pub mod Calls

@@ -1,0 +1,3 @@
+mod Used
+mod Composed
+mod Known

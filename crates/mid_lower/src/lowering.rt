@@ -1,0 +1,91 @@
+//! Lowering.
+
+ghost use Rattle.std.specs.Prelude.{◌≡◌, IfOk, map, sum, length};
+ghost use Rattle.c_tree.specs.Meaning.{globals};
+ghost use Rattle.lowering_chains.specs.Room.{room};
+ghost use Rattle.lowering_law.specs.Labels.{bare_clauses};
+ghost use Rattle.lowering_law.specs.Programs.{with_bodies};
+ghost use Rattle.compile_law.specs.Lowered.{IsLowered};
+ghost use Rattle.mid_lower.specs.Facts.{Facts};
+
+use crate::globals::trim;
+use crate::laws::composes;
+use c_tree::TopItem;
+use call_graph::recursive_functions;
+use call_room::room;
+use check_rules::Checked;
+use checked_fits::checked_fits;
+use checked_room::{
+    counter_unused, few_blocks, has_main, has_room, leads_inside, light_frames, lowered_room,
+    none_recursive, one_each,
+};
+use hard_words::OutOfMemory;
+use lower_functions::program;
+use lower_tables::{Names, shapes};
+use mid_code::Mid;
+use prune_blocks::{prune, reached};
+use std::alloc::Global;
+use tree_literals::tree_holds_words;
+
+/// What is known of a checked program where it is lowered.
+fn facts(checked: &Checked)
+    requires labelled { sum (map bare_clauses (with_bodies checked.now.program.items)) ≡ 0 }
+    ensures { Facts checked.now }
+{
+    checked_fits();
+    one_each();
+    light_frames();
+    has_main();
+    few_blocks();
+    has_room();
+    lowered_room();
+    none_recursive();
+    counter_unused();
+    tree_holds_words(checked.program().items.as_slice());
+}
+
+/// How many variables there are at file scope.
+fn count_globals(alloc: Global, items: &[TopItem]) -> Result<usize, OutOfMemory>
+    ensures { IfOk result (λ count. count ≡ length (globals items.now)) }
+{
+    let found = shapes(alloc, items)?;
+    Ok(found.len())
+}
+
+/// The blocks of a checked program whose chains of calls take so many pairs.
+fn lower_in_room(alloc: Global, checked: &Checked, chain_pairs: u32) -> Result<Mid, OutOfMemory>
+    requires known { Facts checked.now }
+    requires room { chain_pairs ≡ room checked.now.program.items checked.now.main }
+    ensures { IfOk result (λ mid. IsLowered checked.now mid) }
+{
+    composes();
+    leads_inside();
+    let items = checked.program().items.as_slice();
+    let names = Names {
+        main: checked.main(),
+        in_word: 0,
+        out_word: 1,
+    };
+    let count = count_globals(alloc, items)?;
+    let recursive = recursive_functions(alloc, items)?;
+    let low = program(alloc, items, names, recursive.as_slice(), chain_pairs)?;
+    let marks = reached(alloc, &low)?;
+    let kept = prune(alloc, low, marks.as_slice())?;
+    Ok(trim(kept, count))
+}
+
+/// The blocks of a checked program: what it is lowered to, without what can't be reached, and without the counter of nested calls where
+/// nothing uses it.
+///
+/// # Errors
+///
+/// [`OutOfMemory`] where there is no memory.
+pub fn lower(alloc: Global, checked: &Checked) -> Result<Mid, OutOfMemory>
+    requires { sum (map bare_clauses (with_bodies checked.now.program.items)) ≡ 0 }
+    ensures { IfOk result (λ mid. IsLowered checked.now mid) }
+{
+    facts(checked);
+    let items = checked.program().items.as_slice();
+    let chain_pairs = room(alloc, items, checked.main())?;
+    lower_in_room(alloc, checked, chain_pairs)
+}
