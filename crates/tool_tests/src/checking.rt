@@ -8,7 +8,7 @@ use std::test::Fail;
 #[test]
 fn refuses_each_fault_at_its_byte(rt: HostRuntime) -> Result<(), Fail> {
     let mut shelf = MemoryShelf::new(rt.alloc());
-    let sources: [(&[u8], &[u8]); 49] = [
+    let sources: [(&[u8], &[u8]); 54] = [
         (
             b"int x; int x; int main(void){return 0;}",
             b"source refused: NameTwice at 11\n",
@@ -173,8 +173,8 @@ fn refuses_each_fault_at_its_byte(rt: HostRuntime) -> Result<(), Fail> {
             b"source refused: NotConstant at 17\n",
         ),
         (
-            b"int a = -2147483648 % -1; int main(void){return 0;}",
-            b"source refused: NotConstant at 20\n",
+            b"int a = (-2147483647 - 1) % -1; int main(void){return 0;}",
+            b"source refused: NotConstant at 26\n",
         ),
         (
             b"void f(void){} int main(void){1 ? f() : 0; return 0;}",
@@ -195,6 +195,26 @@ fn refuses_each_fault_at_its_byte(rt: HostRuntime) -> Result<(), Fail> {
         (
             b"int main(void){int a; switch (a) {case a: break;} return 0;}",
             b"source refused: NotConstant at 39\n",
+        ),
+        (
+            b"int main(void){int a; int b; int c; a + b = c; return 0;}",
+            b"source refused: NoProgram at 42\n",
+        ),
+        (
+            b"int f(int) {return 0;} int main(void){return 0;}",
+            b"source refused: NoProgram at 11\n",
+        ),
+        (
+            b"void x; int main(void){return 0;}",
+            b"source refused: NoProgram at 6\n",
+        ),
+        (
+            b"int a[] = {}; int main(void){return 0;}",
+            b"source refused: NoProgram at 11\n",
+        ),
+        (
+            b"int f(void){return 0;} int main(void){return f + 1;}",
+            b"source refused: NotScalar at 45\n",
         ),
     ];
     for (source, printed) in sources {
@@ -251,4 +271,69 @@ fn counts_the_blocks(rt: HostRuntime) -> Result<(), Fail> {
         3,
         b"source refused: TooManyBlocks at 0\n",
     )
+}
+
+// A text of a part that is repeated, between a beginning and an end.
+fn repeated(
+    rt: &impl AllocGlobal,
+    begin: &[u8],
+    part: &[u8],
+    count: u32,
+    end: &[u8],
+) -> Result<Vec<u8>, Fail> {
+    let mut text = Vec::new(rt.alloc());
+    text.extend_from_slice(begin)?;
+    for _ in 0..count {
+        text.extend_from_slice(part)?;
+    }
+    text.extend_from_slice(end)?;
+    Ok(text)
+}
+
+#[test]
+fn tells_limits_at_their_names(rt: HostRuntime) -> Result<(), Fail> {
+    let mut shelf = MemoryShelf::new(rt.alloc());
+    let rows: [(&[u8], &[u8], u32, &[u8], u8, &[u8]); 4] = [
+        // An array without length has as many elements as initialisers.
+        (
+            b"int a[] = {1",
+            b",1",
+            32768,
+            b"}; int main(void){return 0;}",
+            3,
+            b"source refused: BadLength at 4\n",
+        ),
+        // The weight is that of the function with the body, not of its prototype.
+        (
+            b"int f(void); int f(void){int a = 0",
+            b";{int b;}",
+            4000,
+            b"; return a;} int main(void){return 0;}",
+            3,
+            b"source refused: FrameTooLarge at 17\n",
+        ),
+        // `&&` costs blocks wherever it stands.
+        (
+            b"int g = 1 && 1; void f(void){} int main(void){",
+            b"f();",
+            15984,
+            b"return 0;}",
+            0,
+            b"compiled\n",
+        ),
+        (
+            b"int g = 1 && 1; void f(void){} int main(void){",
+            b"f();",
+            15985,
+            b"return 0;}",
+            3,
+            b"source refused: TooManyBlocks at 0\n",
+        ),
+    ];
+    for (begin, part, count, end, status, printed) in rows {
+        let text = repeated(&rt, begin, part, count, end)?;
+        assert!(rt; shelf.hold("a.c", text.as_slice()).is_ok());
+        check(&rt, &mut shelf, "compile a.c a.img", status, printed)?;
+    }
+    Ok(())
 }

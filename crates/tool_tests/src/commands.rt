@@ -102,7 +102,7 @@ fn refuses_with_the_written_lines(rt: HostRuntime) -> Result<(), Fail> {
     ];
     for (input, status, printed) in inputs {
         assert!(rt; shelf.hold("in", input).is_ok());
-        check(&rt, &mut shelf, "run a.img in 8", status, printed)?;
+        check(&rt, &mut shelf, "run a.img in 1000", status, printed)?;
     }
     // The image is refused before the input is looked at.
     assert!(rt; shelf.hold("in", b"x").is_ok());
