@@ -1,5 +1,6 @@
 -- Integer constants (ISO/IEC 9899 clause 6.4.4.1, with no suffix but u and U, and with int and unsigned as the types).
-use Rattle.std.specs.Prelude.{ℕ, ◌≡◌, ◌≢◌, ◌≤◌, ◌<◌, ◌+◌, ◌-◌, ◌*◌, ◌&&◌, ◌||◌, ◌==◌, ◌⊎◌, List, [], ◌∷◌, ◌++◌, Bool, true, false, length, drop, fold, slice_index, nat_le, nat_lt, if◌then◌else◌}
+use Rattle.std.specs.Prelude.{ℕ, ◌≡◌, ◌≢◌, ◌≤◌, ◌<◌, ◌+◌, ◌-◌, ◌*◌, ◌&&◌, ◌||◌, ◌==◌, ◌⊎◌, List, [], ◌∷◌, ◌++◌, Bool, true, false, length, drop, fold}
+use Rattle.std.specs.Prelude.{slice_index, nat_le, nat_lt, if◌then◌else◌}
 use Rattle.c_lexer.specs.declared.constant.Base.{Base}
 use Rattle.c_lexer.specs.declared.constant.Constant.{Constant}
 use Rattle.c_lexer.specs.declared.constant.Constant.TheVariants.{NotOne, TooLarge, Fits}
@@ -13,7 +14,8 @@ radix Hexadecimal = 16
 
 -- what a digit is worth, and 16 where the byte is a digit in no base
 abbrev pub digit_worth : ℕ → ℕ
-digit_worth b = if nat_le 48 b && nat_le b 57 then b - 48 else (if nat_le 97 b && nat_le b 102 then b - 87 else (if nat_le 65 b && nat_le b 70 then b - 55 else 16))
+digit_worth b =
+    if nat_le 48 b && nat_le b 57 then b - 48 else (if nat_le 97 b && nat_le b 102 then b - 87 else (if nat_le 65 b && nat_le b 70 then b - 55 else 16))
 
 -- each byte is a digit of the base
 abbrev pub AreDigits : ℕ → List ℕ → Type 0
@@ -76,4 +78,5 @@ pub record HasValue (base : Base) (digits suffix : List ℕ) (value : ℕ) (unsi
 abbrev pub Reads : (List ℕ → List ℕ → Base → Type 0) → Constant → Type 0
 Reads Splits NotOne = (base : Base) (digits suffix : List ℕ) → Splits digits suffix base → ⊥
 Reads Splits TooLarge = (base : Base) × (digits : List ℕ) × (suffix : List ℕ) × Splits digits suffix base × (greatest base suffix < worth (radix base) digits)
-Reads Splits (Fits value unsigned) = (base : Base) × (digits : List ℕ) × (suffix : List ℕ) × Splits digits suffix base × HasValue base digits suffix value unsigned
+Reads Splits (Fits value unsigned) = (base : Base) × (digits : List ℕ) × (suffix : List ℕ) × Splits digits suffix base ×
+    HasValue base digits suffix value unsigned

@@ -1,5 +1,6 @@
 -- The tokens of a text, or its first fault.
-use Rattle.std.specs.Prelude.{ℕ, ◌≡◌, ◌≤◌, ◌<◌, ◌+◌, List, [], ◌∷◌, ◌++◌, Bool, true, false, length, take, drop, codes, bytes_eq, Result, Ok, Err, if◌then◌else◌}
+use Rattle.std.specs.Prelude.{ℕ, ◌≡◌, ◌≤◌, ◌<◌, ◌+◌, List, [], ◌∷◌, ◌++◌, Bool, true, false, length, take, drop, codes, bytes_eq, Result, Ok, Err}
+use Rattle.std.specs.Prelude.{if◌then◌else◌}
 use Rattle.std.specs.List.{position_or_len, list_any}
 use Rattle.c_lexer.specs.declared.token.Keyword.{Keyword}
 use Rattle.c_lexer.specs.declared.token.Punct.{Punct}
@@ -47,9 +48,12 @@ pub data Means (starts_line : Bool) (names : List (List ℕ)) (at : ℕ) (bytes 
   sign : {sign : Punct} → Means starts_line names at bytes (kinds.Sign sign) (Is (tokens.Sign sign))
   reserved : (word : Keyword) → bytes ≡ word_spelling word → Means starts_line names at bytes kinds.Word (Is (tokens.Word word))
   name : ((word : Keyword) → bytes ≡ word_spelling word → ⊥) → Means starts_line names at bytes kinds.Word (Is (tokens.Name (number_of names bytes)))
-  number : (base : Base) (digits suffix : List ℕ) → IsConstant bytes base digits suffix → worth (radix base) digits ≤ greatest base suffix → Means starts_line names at bytes kinds.Digits (Is (tokens.Number (worth (radix base) digits) (is_unsigned suffix (worth (radix base) digits))))
-  too_large : (base : Base) (digits suffix : List ℕ) → IsConstant bytes base digits suffix → greatest base suffix < worth (radix base) digits → Means starts_line names at bytes kinds.Digits (Wrong (LiteralTooLarge at))
-  no_number : ((base : Base) (digits suffix : List ℕ) → IsConstant bytes base digits suffix → ⊥) → Means starts_line names at bytes kinds.Digits (Wrong (BadToken at))
+  number : (base : Base) (digits suffix : List ℕ) → IsConstant bytes base digits suffix → worth (radix base) digits ≤ greatest base suffix →
+      Means starts_line names at bytes kinds.Digits (Is (tokens.Number (worth (radix base) digits) (is_unsigned suffix (worth (radix base) digits))))
+  too_large : (base : Base) (digits suffix : List ℕ) → IsConstant bytes base digits suffix → greatest base suffix < worth (radix base) digits →
+      Means starts_line names at bytes kinds.Digits (Wrong (LiteralTooLarge at))
+  no_number : ((base : Base) (digits suffix : List ℕ) → IsConstant bytes base digits suffix → ⊥) →
+      Means starts_line names at bytes kinds.Digits (Wrong (BadToken at))
 
 -- the tokens of a text behind some that stand before them
 abbrev pub with_front : List Token → Result (List Token) LexError → Result (List Token) LexError
@@ -61,13 +65,19 @@ mutual
   -- else what its longest piece gives.
   pub data TokensFrom : Bool → List (List ℕ) → ℕ → List ℕ → Result (List Token) LexError → Type 0 where
     done : {starts_line : Bool} {names : List (List ℕ)} {at : ℕ} → TokensFrom starts_line names at [] (Ok [])
-    no_piece : {starts_line : Bool} {names : List (List ℕ)} {at : ℕ} {rest : List ℕ} → 0 < length rest → HasNoPiece starts_line rest → TokensFrom starts_line names at rest (Err (BadToken at))
-    piece : {starts_line : Bool} {names : List (List ℕ)} {at : ℕ} {rest : List ℕ} {result : Result (List Token) LexError} (size : ℕ) (kind : Kind) (meaning : Meaning) → IsLongest starts_line rest size kind → Means starts_line names at (take size rest) kind meaning → GoesOn meaning names at size rest result → TokensFrom starts_line names at rest result
+    no_piece : {starts_line : Bool} {names : List (List ℕ)} {at : ℕ} {rest : List ℕ} → 0 < length rest → HasNoPiece starts_line rest →
+        TokensFrom starts_line names at rest (Err (BadToken at))
+    piece : {starts_line : Bool} {names : List (List ℕ)} {at : ℕ} {rest : List ℕ} {result : Result (List Token) LexError} (size : ℕ) (kind : Kind)
+        (meaning : Meaning) → IsLongest starts_line rest size kind → Means starts_line names at (take size rest) kind meaning →
+        GoesOn meaning names at size rest result → TokensFrom starts_line names at rest result
 
   -- What a piece of some size gives with what follows it: a blank or a comment nothing, a token itself, a fault the end.
   pub data GoesOn : Meaning → List (List ℕ) → ℕ → ℕ → List ℕ → Result (List Token) LexError → Type 0 where
-    skipped : {names : List (List ℕ)} {at size : ℕ} {rest : List ℕ} {result : Result (List Token) LexError} (starts_line : Bool) → TokensFrom starts_line names (at + size) (drop size rest) result → GoesOn (Skipped starts_line) names at size rest result
-    token : {names : List (List ℕ)} {at size : ℕ} {rest : List ℕ} (kind : TokenKind) (result : Result (List Token) LexError) → TokensFrom false (names_after names (take size rest) kind) (at + size) (drop size rest) result → GoesOn (Is kind) names at size rest (with_front (record { kind = kind; at = at; length = size } ∷ []) result)
+    skipped : {names : List (List ℕ)} {at size : ℕ} {rest : List ℕ} {result : Result (List Token) LexError} (starts_line : Bool) →
+        TokensFrom starts_line names (at + size) (drop size rest) result → GoesOn (Skipped starts_line) names at size rest result
+    token : {names : List (List ℕ)} {at size : ℕ} {rest : List ℕ} (kind : TokenKind) (result : Result (List Token) LexError) →
+        TokensFrom false (names_after names (take size rest) kind) (at + size) (drop size rest) result →
+        GoesOn (Is kind) names at size rest (with_front (record { kind = kind; at = at; length = size } ∷ []) result)
     fault : {names : List (List ℕ)} {at size : ℕ} {rest : List ℕ} (error : LexError) → GoesOn (Wrong error) names at size rest (Err error)
 
 -- A text gives these tokens, or this fault first.

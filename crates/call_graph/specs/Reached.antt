@@ -18,4 +18,5 @@ AreReached items from reached = (name : ℕ) → slice_index_or reached name fal
 -- what the one function calls, or one of those under which it says true, has true under it
 abbrev pub AreFollowed : List (List ℕ) → ℕ → List Bool → Type 0
 AreFollowed lists from reached =
-    (name to : ℕ) → (name ≡ from) ⊎ (slice_index_or reached name false ≡ true) → Contains (slice_index_or lists name []) to → slice_index_or reached to false ≡ true
+    (name to : ℕ) → (name ≡ from) ⊎ (slice_index_or reached name false ≡ true) → Contains (slice_index_or lists name []) to →
+    slice_index_or reached to false ≡ true

@@ -1,5 +1,6 @@
 -- What is looked up by names after the walk, for private contracts alone.
-use Rattle.std.specs.Prelude.{◌≡◌, ℕ, zero, suc, ◌+◌, Bool, true, false, not, ◌&&◌, ◌||◌, ◌==◌, if◌then◌else◌, List, [], ◌∷◌, map, filter, Option, Some, None, slice_index_or}
+use Rattle.std.specs.Prelude.{◌≡◌, ℕ, zero, suc, ◌+◌, Bool, true, false, not, ◌&&◌, ◌||◌, ◌==◌, if◌then◌else◌, List, [], ◌∷◌, map, filter, Option, Some, None}
+use Rattle.std.specs.Prelude.{slice_index_or}
 use Rattle.c_tree.specs.declared.tree.Function.{Function}
 use Rattle.c_tree.specs.declared.tree.TopItem.{TopItem}
 use Rattle.c_tree.specs.declared.tree.Clause.{Clause, fold-Clause}
@@ -32,7 +33,8 @@ chain_over lists weights (suc n) name = slice_index_or weights name 0 + greatest
 -- the functions with bodies that a function reaches, itself among them, which reach themselves or don't
 abbrev pub chosen : ℕ → List Bool → List Bool → Bool → List TopItem → List Function
 chosen from reached recursive is_deep items =
-    filter (λ f. (f.name == from || slice_index_or reached f.name false) && (if slice_index_or recursive f.name false then is_deep else not is_deep)) (bodies items)
+    filter (λ f. (f.name == from || slice_index_or reached f.name false) && (if slice_index_or recursive f.name false then is_deep else
+    not is_deep)) (bodies items)
 
 -- whether a function is the one that is begun with, or one that it reaches
 abbrev pub is_wanted : ℕ → List Bool → ℕ → Bool
@@ -41,4 +43,5 @@ is_wanted from reached name = name == from || slice_index_or reached name false
 -- under each name that is wanted its weight, and the greatest number under one that its function calls
 abbrev pub AreFurther : List (List ℕ) → List ℕ → ℕ → List Bool → List ℕ → List ℕ → Type 0
 AreFurther lists weights from reached numbers next =
-    (name : ℕ) → is_wanted from reached name ≡ true → slice_index_or next name 0 ≡ capped (slice_index_or weights name 0 + greatest (map (λ n. slice_index_or numbers n 0) (slice_index_or lists name [])))
+    (name : ℕ) → is_wanted from reached name ≡ true → slice_index_or next name 0 ≡
+    capped (slice_index_or weights name 0 + greatest (map (λ n. slice_index_or numbers n 0) (slice_index_or lists name [])))

@@ -1,6 +1,7 @@
 -- What is looked at after the walk: that each function called has a body, that there is a `main`, and the limits of the sizes. The limits are the
 -- project's own (ISO/IEC 9899:1999, 5.2.4.1).
-use Rattle.std.specs.Prelude.{ℕ, zero, suc, ◌+◌, ◌*◌, Bool, true, false, not, ◌&&◌, ◌||◌, if◌then◌else◌, ◌==◌, nat_lt, List, [], ◌∷◌, ◌++◌, map, filter, find, flat_map, sum, length, Option, Some, None, Ok, Err}
+use Rattle.std.specs.Prelude.{ℕ, zero, suc, ◌+◌, ◌*◌, Bool, true, false, not, ◌&&◌, ◌||◌, if◌then◌else◌, ◌==◌, nat_lt, List, [], ◌∷◌, ◌++◌, map, filter, find}
+use Rattle.std.specs.Prelude.{flat_map, sum, length, Option, Some, None, Ok, Err}
 use Rattle.c_tree.specs.declared.tree.Ty.TheVariants.{Int}
 use Rattle.c_tree.specs.declared.tree.Expr.{Expr, fold-Expr}
 use Rattle.c_tree.specs.declared.tree.Expr.TheOpen.{Expr-F}

@@ -1,6 +1,7 @@
 -- The walk of a program: its items in order, in each of them what stands first in the text first. It gives each name the position of its
 -- declaration, up to the first fault that it meets (the constraints of ISO/IEC 9899:1999, 6.5 to 6.9; the limits are the project's own).
-use Rattle.std.specs.Prelude.{ℕ, zero, suc, Bool, true, false, not, ◌&&◌, ◌||◌, if◌then◌else◌, ◌==◌, nat_le, List, [], ◌∷◌, ◌++◌, map, length, Option, Some, None, is_some, Ok}
+use Rattle.std.specs.Prelude.{ℕ, zero, suc, Bool, true, false, not, ◌&&◌, ◌||◌, if◌then◌else◌, ◌==◌, nat_le, List, [], ◌∷◌, ◌++◌, map, length, Option, Some}
+use Rattle.std.specs.Prelude.{None, is_some, Ok}
 use Rattle.c_tree.specs.declared.tree.Ty.{Ty}
 use Rattle.c_tree.specs.declared.tree.Ty.TheVariants.{Int, Unsigned, Void}
 use Rattle.c_tree.specs.declared.tree.Expr.{Expr, Literal, Name, Index, Call, Unary, Binary, Logic, Choose, Assign, Bump, Comma, Paren, fold-Expr}
@@ -24,13 +25,16 @@ use Rattle.c_tree.specs.Run.{Outcome, Gives, Ends}
 use Rattle.c_tree.specs.Graph.{has_body, function_named}
 use Rattle.c_tree.specs.Meaning.{expression, no_calls, constant, padded, first_or_zero, Names}
 use Rattle.check_rules.specs.declared.error.CheckKind.{CheckKind}
-use Rattle.check_rules.specs.declared.error.CheckKind.TheVariants.{NameTwice, PrototypeDiffers, BadLength, NotConstant, TooManyInitialisers, NameUnknown, NotAFunction, NotAnArray, NotScalar, ArgCount, VoidUsed, NotAssignable, BadReturn, BreakOutside, CaseTwice}
+use Rattle.check_rules.specs.declared.error.CheckKind.TheVariants.{NameTwice, PrototypeDiffers, BadLength, NotConstant, TooManyInitialisers, NameUnknown}
+use Rattle.check_rules.specs.declared.error.CheckKind.TheVariants.{NotAFunction, NotAnArray, NotScalar, ArgCount, VoidUsed, NotAssignable, BadReturn}
+use Rattle.check_rules.specs.declared.error.CheckKind.TheVariants.{BreakOutside, CaseTwice}
 use Rattle.check_rules.specs.declared.decl.Decl.{Decl}
 use Rattle.check_rules.specs.declared.decl.Decl.TheVariants as decl
 use Rattle.std.specs.List.{list_any}
 pub use Rattle.check_rules.specs.declared.names.Around.{Around}
 use Rattle.check_rules.specs.Fault.{Walk, ◌>>=◌, ◌>>◌, fault, require, refuse}
-use Rattle.check_rules.specs.Scopes.{Kind, Scalar, Array, Function as FunctionKind, Known, lookup, Walking, InForce, in_force, enter_file, enter_block, is_new, opened, closed, begun, ended, with_body_of}
+use Rattle.check_rules.specs.Scopes.{Kind, Scalar, Array, Function as FunctionKind, Known, lookup, Walking, InForce, in_force, enter_file, enter_block, is_new}
+use Rattle.check_rules.specs.Scopes.{opened, closed, begun, ended, with_body_of}
 
 -- ---- names
 

@@ -27,11 +27,13 @@ NoneWhereFlat = (names : Names) (program : Program) (chain_pairs : ℕ) (marks :
 -- then no step uses a global behind the variables at file scope
 abbrev pub CounterUnused : Type 0
 CounterUnused = (names : Names) (program : Program) (chain_pairs : ℕ) (marks : List (List Bool)) → Fitting names program.items → OneEach names program.items →
-    NoneRecursive names program marks → (global : ℕ) → IsUsed (pruned marks (low_program names program chain_pairs)) global → global < length (globals program.items)
+    NoneRecursive names program marks → (global : ℕ) → IsUsed (pruned marks (low_program names program chain_pairs)) global →
+    global < length (globals program.items)
 
 -- and without it the program is valid with more room for its calls, where that is there
 abbrev pub TrimmedIsValid : Type 0
-TrimmedIsValid = (names : Names) (program : Program) (smaller chain_pairs : ℕ) (marks : List (List Bool)) → Fitting names program.items → OneEach names program.items →
+TrimmedIsValid = (names : Names) (program : Program) (smaller chain_pairs : ℕ) (marks : List (List Bool)) → Fitting names program.items →
+    OneEach names program.items →
     NoneRecursive names program marks → Valid (pruned marks (low_program names program smaller)) →
     sum (map length (map (λ g. object_words g.object) (globals program.items))) + chain_pairs ≤ 32768 →
     Valid (trimmed (length (globals program.items)) (pruned marks (low_program names program chain_pairs)))

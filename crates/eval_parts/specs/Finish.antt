@@ -30,7 +30,8 @@ ended (Ends end output) = record { output = output; end = end }
 
 -- what was put out before changes nothing of what a stack makes of an outcome, but stays in front of the output
 abbrev pub OutputStays : Type 0
-OutputStays = (names : Names) (items : List TopItem) (level : ℕ) (layers : List Layer) (words : List ℕ) (o : Outcome Given) → finish names items level layers (with_words words o) ≡ with_words words (finish names items level layers o)
+OutputStays = (names : Names) (items : List TopItem) (level : ℕ) (layers : List Layer) (words : List ℕ) (o : Outcome Given) →
+    finish names items level layers (with_words words o) ≡ with_words words (finish names items level layers o)
 
 -- a run as a whole ends as its last part
 abbrev pub EndsSo : Type 0

@@ -13,8 +13,12 @@ use Rattle.c_tree.specs.declared.tree.Expr.{Expr}
 use Rattle.c_tree.specs.declared.tree.Stmt.{Stmt}
 use Rattle.c_tree.specs.declared.tree.TopItem.{TopItem}
 use Rattle.c_tree.specs.Operators.{is_unsigned_type, converted, truth, is_zero, common, operate, operate_unary, bumped}
-use Rattle.c_tree.specs.Run.{State, Outcome, Gives, Ends, Run, and_then, ◌>>=◌, ◌>>◌, pure, stop, lift, meaningless, types_now, counted, designated, object_type, check_index, write, close_scope, close_call, end_active, spend}
-use Rattle.c_tree.specs.Meaning.{Calls, fetch, store, values, tested, Statement, expression, statement, clause, declare, in_order, in_scope, value_if, test_or_true, next_or_nothing, loop, turns, do_loop, for_loop, after_body, if_normal, or_nothing, chosen, after_switch, Labelled, from_label, or_those, is_label, label_word, call_result, in_body, Names, call_at, calls, CRan, bump, assign_with, returned, returns_unsigned, call_in_word}
+use Rattle.c_tree.specs.Run.{State, Outcome, Gives, Ends, Run, and_then, ◌>>=◌, ◌>>◌, pure, stop, lift, meaningless, types_now, counted, designated}
+use Rattle.c_tree.specs.Run.{object_type, check_index, write, close_scope, close_call, end_active, spend}
+use Rattle.c_tree.specs.Meaning.{Calls, fetch, store, values, tested, Statement, expression, statement, clause, declare, in_order, in_scope, value_if}
+use Rattle.c_tree.specs.Meaning.{test_or_true, next_or_nothing, loop, turns, do_loop, for_loop, after_body, if_normal, or_nothing, chosen, after_switch}
+use Rattle.c_tree.specs.Meaning.{Labelled, from_label, or_those, is_label, label_word, call_result, in_body, Names, call_at, calls, CRan, bump, assign_with}
+use Rattle.c_tree.specs.Meaning.{returned, returns_unsigned, call_in_word}
 use Rattle.c_tree.specs.Graph.{function_named}
 use Rattle.eval_parts.specs.declared.part.Given.{Given}
 use Rattle.eval_parts.specs.declared.part.Given.TheVariants as given
@@ -87,7 +91,8 @@ abbrev pub start : Names → List TopItem → ℕ → Now → Run Given
 start names items level (now.Expr e) = value_given ((expression e.now).value (calls names items level))
 start names items level (now.Place e) = place_given ((expression e.now).place (calls names items level))
 start names items level (now.Fetch p) = value_given (fetch p)
-start names items level (now.Args name args vs) = value_given (values (map (λ e. e.value (calls names items level)) (map expression args.now)) >>= (λ ws. call_at names items level name (vs ++ ws)))
+start names items level (now.Args name args vs) =
+    value_given (values (map (λ e. e.value (calls names items level)) (map expression args.now)) >>= (λ ws. call_at names items level name (vs ++ ws)))
 start names items level (now.Call name args) = value_given (call_at names items level name args)
 start names items level (now.Enter name args) = value_given (call_at names items (suc level) name args)
 start names items level (now.Function f args) = value_given (spend >> in_body (calls names items level) f.now args)
@@ -96,12 +101,17 @@ start names items level (now.Stmts cs) = flow_given (all_of (calls names items l
 start names items level (now.Local d) = flow_given (declare (calls names items level) d.now)
 start names items level (now.Locals ds) = flow_given (in_order (map (declare (calls names items level)) ds.now))
 start names items level (now.Clauses cs) = flow_given (in_order (map (λ c. c.body (calls names items level)) (map clause cs.now)))
-start names items level (now.Search word left all) = flow_given (bodies (calls names items level) (or_default word (from_label word (map clause left.now)) all.now))
-start names items level (now.Labels word labels here left all) = flow_given (bodies (calls names items level) (if list_any (is_label word) (map label_word labels.now) then map clause here.now else or_default word (from_label word (map clause left.now)) all.now))
+start names items level (now.Search word left all) =
+    flow_given (bodies (calls names items level) (or_default word (from_label word (map clause left.now)) all.now))
+start names items level (now.Labels word labels here left all) = flow_given (bodies (calls names items level)
+    (if list_any (is_label word) (map label_word labels.now) then map clause here.now else or_default word (from_label word (map clause left.now)) all.now))
 start names items level (now.Block cs) = flow_given (in_scope (all_of (calls names items level) cs.now))
-start names items level (now.For first l) = let call = calls names items level in flow_given (in_scope (for_loop (statement first.now call) (test_of call l) (next_of call l) (body_of call l)))
-start names items level (now.InFor first l) = let call = calls names items level in flow_given (for_loop (statement first.now call) (test_of call l) (next_of call l) (body_of call l))
-start names items level (now.Do test body) = let call = calls names items level in flow_given (do_loop ((expression test.now).value call) (statement body.now call))
+start names items level (now.For first l) = let call = calls names items level in
+    flow_given (in_scope (for_loop (statement first.now call) (test_of call l) (next_of call l) (body_of call l)))
+start names items level (now.InFor first l) = let call = calls names items level in
+    flow_given (for_loop (statement first.now call) (test_of call l) (next_of call l) (body_of call l))
+start names items level (now.Do test body) = let call = calls names items level in
+    flow_given (do_loop ((expression test.now).value call) (statement body.now call))
 start names items level (now.Loop l) = flow_given (loop_of (calls names items level) l)
 start names items level (now.Turns left l) = flow_given (turns_of (calls names items level) left l)
 start names items level (now.Given g) = pure g
@@ -115,14 +125,19 @@ arms_type call a b types = common ((expression a).is_unsigned types call.is_unsi
 
 abbrev pub with_value : Names → List TopItem → ℕ → OnValue → Value → Run Given
 with_value names items level (on_value.IndexOf name) i = place_given (check_index name i.word >> pure (Element name i.word))
-with_value names items level (on_value.Args name others vs) v = value_given (values (map (λ e. e.value (calls names items level)) (map expression others.now)) >>= (λ ws. call_at names items level name (vs ++ v ∷ ws)))
+with_value names items level (on_value.Args name others vs) v = value_given (values
+    (map (λ e. e.value (calls names items level)) (map expression others.now)) >>= (λ ws. call_at names items level name (vs ++ v ∷ ws)))
 with_value names items level (on_value.Unary op) x = value_given (pure (operate_unary op x))
 with_value names items level (on_value.Right op right) x = value_given ((expression right.now).value (calls names items level) >>= (λ y. lift (operate op x y)))
 with_value names items level (on_value.Operate op x) y = value_given (lift (operate op x y))
-with_value names items level (on_value.Logic true right) x = value_given (if is_zero x then pure (truth false) else tested ((expression right.now).value (calls names items level)))
-with_value names items level (on_value.Logic false right) x = value_given (if is_zero x then tested ((expression right.now).value (calls names items level)) else pure (truth true))
+with_value names items level (on_value.Logic true right) x =
+    value_given (if is_zero x then pure (truth false) else tested ((expression right.now).value (calls names items level)))
+with_value names items level (on_value.Logic false right) x =
+    value_given (if is_zero x then tested ((expression right.now).value (calls names items level)) else pure (truth true))
 with_value names items level on_value.Tested x = value_given (pure (truth (not (is_zero x))))
-with_value names items level (on_value.Choose a b) t = let call = calls names items level in value_given (types_now >>= (λ types. (if is_zero t then (expression b.now).value call else (expression a.now).value call) >>= (λ v. pure (converted (arms_type call a.now b.now types) v))))
+with_value names items level (on_value.Choose a b) t = let call = calls names items level in
+    value_given (types_now >>= (λ types. (if is_zero t then (expression b.now).value call else (expression a.now).value call) >>=
+    (λ v. pure (converted (arms_type call a.now b.now types) v))))
 with_value names items level (on_value.Convert is_unsigned) v = value_given (pure (converted is_unsigned v))
 with_value names items level (on_value.Store p) v = value_given (store p v.word)
 with_value names items level (on_value.StoreBy op p old) v = value_given (lift (operate op old v) >>= (λ new. store p new.word))
@@ -130,10 +145,13 @@ with_value names items level (on_value.Second right) v = value_given ((expressio
 with_value names items level (on_value.EndActive before) v = value_given (end_active before.count >> pure v)
 with_value names items level on_value.Discard v = flow_given (pure Normal)
 with_value names items level (on_value.Initialise name) v = flow_given (write name v.word >> pure Normal)
-with_value names items level (on_value.If a b) t = flow_given (if is_zero t then or_nothing (option_map statement b.now) (calls names items level) else statement a.now (calls names items level))
-with_value names items level (on_value.Test left l) t = let call = calls names items level in flow_given (if is_zero t then pure Normal else (spend >> (body_of call l >>= (λ flow. after_body flow (next_of call l >> turns_of call left l)))))
+with_value names items level (on_value.If a b) t =
+    flow_given (if is_zero t then or_nothing (option_map statement b.now) (calls names items level) else statement a.now (calls names items level))
+with_value names items level (on_value.Test left l) t = let call = calls names items level in
+    flow_given (if is_zero t then pure Normal else (spend >> (body_of call l >>= (λ flow. after_body flow (next_of call l >> turns_of call left l)))))
 with_value names items level (on_value.Next left l) v = flow_given (turns_of (calls names items level) left l)
-with_value names items level (on_value.Switch cs) v = flow_given (in_order (map (λ c. c.body (calls names items level)) (chosen v.word (map clause cs.now))) >>= (λ flow. pure (after_switch flow)))
+with_value names items level (on_value.Switch cs) v =
+    flow_given (in_order (map (λ c. c.body (calls names items level)) (chosen v.word (map clause cs.now))) >>= (λ flow. pure (after_switch flow)))
 with_value names items level on_value.Return v = flow_given (pure (Returns v))
 
 abbrev pub with_place : Names → List TopItem → ℕ → OnPlace → Place → Run Given
@@ -147,8 +165,10 @@ with_flow names items level (on_flow.Locals ds) flow = flow_given (if_normal flo
 with_flow names items level (on_flow.Clauses cs) flow = flow_given (if_normal flow (in_order (map (λ c. c.body (calls names items level)) (map clause cs.now))))
 with_flow names items level on_flow.CloseScope flow = flow_given (close_scope >> pure flow)
 with_flow names items level (on_flow.Loop l) flow = flow_given (if_normal flow (loop_of (calls names items level) l))
-with_flow names items level (on_flow.AfterFirst test body) flow = let call = calls names items level in flow_given (after_body flow (loop ((expression test.now).value call) (pure tt) (statement body.now call)))
-with_flow names items level (on_flow.AfterTurn left l) flow = let call = calls names items level in flow_given (after_body flow (next_of call l >> turns_of call left l))
+with_flow names items level (on_flow.AfterFirst test body) flow = let call = calls names items level in
+    flow_given (after_body flow (loop ((expression test.now).value call) (pure tt) (statement body.now call)))
+with_flow names items level (on_flow.AfterTurn left l) flow = let call = calls names items level in
+    flow_given (after_body flow (next_of call l >> turns_of call left l))
 with_flow names items level on_flow.EndSwitch flow = flow_given (pure (after_switch flow))
 with_flow names items level (on_flow.Leave scopes is_unsigned) flow = value_given (close_call scopes >> pure (call_result is_unsigned flow))
 
@@ -194,7 +214,8 @@ one_of_turns left l names items level = flow_given (turns_of (calls names items 
 
 -- what a part does in the state before is what comes next in the state after
 abbrev pub Does : (Names → List TopItem → ℕ → Run Given) → Held → Next → Held → Type 0
-Does part before next after = (names : Names) (items : List TopItem) (level : ℕ) → part names items level (state before) ≡ follow names items level next (state after)
+Does part before next after = (names : Names) (items : List TopItem) (level : ℕ) →
+    part names items level (state before) ≡ follow names items level next (state after)
 
 abbrev pub Works : Now → Held → Next → Held → Type 0
 Works n = Does (λ names items level. start names items level n)
@@ -234,7 +255,8 @@ input_word names items level = value_given call_in_word
 
 -- the called function, in a program with these names
 abbrev pub Enters : Names → List TopItem → ℕ → List Value → Held → Next → Held → Type 0
-Enters names items name args before next after = (level : ℕ) → start names items level (now.Enter name args) (state before) ≡ follow names items level next (state after)
+Enters names items name args before next after = (level : ℕ) → start names items level (now.Enter name args) (state before) ≡
+    follow names items level next (state after)
 
 -- the end of a run whose last part gives this
 abbrev pub exit_of : Given → EvalEnd

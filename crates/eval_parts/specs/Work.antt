@@ -96,7 +96,8 @@ statement_work_step most call (Stmt-F.Block body) = in_order_work body + 3
 statement_work_step most call (Stmt-F.If test a b) = expression_work call test + a + or_zero (λ n. n) b + 6
 statement_work_step most call (Stmt-F.While test body) = loop_work most (round_work (expression_work call test) 0 body) + 1
 statement_work_step most call (Stmt-F.Do body test) = body + loop_work most (round_work (expression_work call test) 0 body) + 2
-statement_work_step most call (Stmt-F.For first test next body) = first + loop_work most (round_work (or_zero (expression_work call) test) (or_zero (expression_work call) next) body) + 4
+statement_work_step most call (Stmt-F.For first test next body) = first + loop_work most
+    (round_work (or_zero (expression_work call) test) (or_zero (expression_work call) next) body) + 4
 statement_work_step most call (Stmt-F.Switch test clauses) = expression_work call test + 2 * search_work clauses + 6
 statement_work_step most call (Stmt-F.Break at) = 2
 statement_work_step most call (Stmt-F.Continue at) = 2
@@ -130,7 +131,8 @@ call_work most items (suc level) = bodies_work most (call_work most items level)
 
 abbrev pub round_of : ℕ → ℕ → Loop → ℕ
 round_of most call (a_loop.While test body) = round_work (expression_work call test.now) 0 (statement_work most call body.now)
-round_of most call (a_loop.For test next body) = round_work (or_zero (expression_work call) test.now) (or_zero (expression_work call) next.now) (statement_work most call body.now)
+round_of most call (a_loop.For test next body) =
+    round_work (or_zero (expression_work call) test.now) (or_zero (expression_work call) next.now) (statement_work most call body.now)
 
 -- what is done after a turn, and the turns behind it
 abbrev pub after_work : ℕ → Loop → ℕ
@@ -158,12 +160,15 @@ now_work most call items (now.Stmts cs) = in_order_work (map (statement_work mos
 now_work most call items (now.Local d) = local_work call d.now
 now_work most call items (now.Locals ds) = in_order_work (map (local_work call) ds.now)
 now_work most call items (now.Clauses cs) = clauses_work (map (clause_work most call) cs.now)
-now_work most call items (now.Search word left all) = search_work (map (clause_work most call) left.now) + searching word (search_work (map (clause_work most call) all.now))
-now_work most call items (now.Labels word labels here left all) = length labels.now + clauses_work (map (clause_work most call) here.now) + search_work (map (clause_work most call) left.now) + 1 + searching word (search_work (map (clause_work most call) all.now))
+now_work most call items (now.Search word left all) = search_work (map (clause_work most call) left.now) +
+    searching word (search_work (map (clause_work most call) all.now))
+now_work most call items (now.Labels word labels here left all) = length labels.now + clauses_work (map (clause_work most call) here.now) +
+    search_work (map (clause_work most call) left.now) + 1 + searching word (search_work (map (clause_work most call) all.now))
 now_work most call items (now.Block cs) = in_order_work (map (statement_work most call) cs.now) + 2
 now_work most call items (now.For first l) = statement_work most call first.now + loop_work most (round_of most call l) + 3
 now_work most call items (now.InFor first l) = statement_work most call first.now + loop_work most (round_of most call l) + 1
-now_work most call items (now.Do test body) = statement_work most call body.now + loop_work most (round_work (expression_work call test.now) 0 (statement_work most call body.now)) + 1
+now_work most call items (now.Do test body) = statement_work most call body.now +
+    loop_work most (round_work (expression_work call test.now) 0 (statement_work most call body.now)) + 1
 now_work most call items (now.Loop l) = loop_work most (round_of most call l)
 now_work most call items (now.Turns left l) = turns_work (round_of most call l) left
 now_work most call items (now.Given g) = 1

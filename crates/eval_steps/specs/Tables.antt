@@ -21,4 +21,5 @@ function_in (item.Function f) = Some f
 
 -- a number noted for the function with a body that an item is, where its name has none
 abbrev pub NotesItem : TopItem → ℕ → List ℕ → List ℕ → Type 0
-NotesItem item number before after = (name : ℕ) → slice_index after name ≡ (if defines name item && slice_index before name == 0 then number else slice_index before name)
+NotesItem item number before after =
+    (name : ℕ) → slice_index after name ≡ (if defines name item && slice_index before name == 0 then number else slice_index before name)

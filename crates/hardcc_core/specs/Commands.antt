@@ -1,5 +1,6 @@
 -- The words of the command line, and the commands that they are.
-use Rattle.std.specs.Prelude.{ℕ, ◌-◌, ◌*◌, ◌^◌, nat_le, ◌&&◌, not, ◌==◌, if◌then◌else◌, Bool, List, [], ◌∷◌, length, Option, Some, None, codes, map, string_bytes}
+use Rattle.std.specs.Prelude.{ℕ, ◌-◌, ◌*◌, ◌^◌, nat_le, ◌&&◌, not, ◌==◌, if◌then◌else◌, Bool, List, [], ◌∷◌, length, Option, Some, None, codes, map}
+use Rattle.std.specs.Prelude.{string_bytes}
 use Rattle.std.specs.Str.{bytes_eq}
 use Rattle.std.specs.Option.{option_map, option_and_then}
 use Rattle.std.specs.declared.alloc.Global.{Global}

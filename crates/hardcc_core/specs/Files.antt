@@ -76,7 +76,8 @@ IsGood (MadeFile number size) bytes = IsAccepted bytes
 -- The bytes are refused, and why.
 pub data IsBad (bytes : List ℕ) : File → Failure → Type 0 where
   BadSource : (name : List ℕ) (refusal : Refusal) → IsRefused bytes refusal → IsBad bytes (SourceFile name) (Source refusal)
-  BadImage : (name : List ℕ) (error : ImageError) → length bytes ≤ longest_image → images.refusal bytes ≡ Some error → IsBad bytes (ImageFile name) (Image error)
+  BadImage : (name : List ℕ) (error : ImageError) → length bytes ≤ longest_image → images.refusal bytes ≡ Some error →
+      IsBad bytes (ImageFile name) (Image error)
   LongImage : (name : List ℕ) → longest_image < length bytes → IsBad bytes (ImageFile name) LargeImage
   BadInput : (name : List ℕ) (error : LinesError) → length bytes ≤ longest_input → inputs bytes ≡ Err error → IsBad bytes (InputFile name) (Input error)
   LongInput : (name : List ℕ) → longest_input < length bytes → IsBad bytes (InputFile name) LargeInput

@@ -18,7 +18,8 @@ use Rattle.hardcc_core.specs.declared.failure.Failure.{Failure}
 use Rattle.hardcc_core.specs.Commands.{Command, Compile, Run, RunChanged, Audit, Campaign, ListPairs, Make, Eval, SelfRun, self_image}
 use Rattle.compile_chain.specs.Compiled.{IsSource, IsCompiled}
 use Rattle.hardcc_core.specs.Failures.{line_of}
-use Rattle.hardcc_core.specs.Files.{Held, Holds, File, SourceFile, ImageFile, InputFile, FaultFile, MadeFile, IsRunnable, IsInput, IsFault, HoldsRun, AreGood, LacksOne, HasBad}
+use Rattle.hardcc_core.specs.Files.{Held, Holds, File, SourceFile, ImageFile, InputFile, FaultFile, MadeFile, IsRunnable, IsInput, IsFault, HoldsRun, AreGood}
+use Rattle.hardcc_core.specs.Files.{LacksOne, HasBad}
 use Rattle.hardcc_core.specs.Pairs.{pair_lines}
 use Rattle.hardcc_core.specs.Summaries.{summary}
 use Rattle.hardcc_core.specs.Tallies.{tally_lines}
@@ -142,7 +143,8 @@ Prints held new (ListPairs image) text = Holds held image (λ bytes. (fields : I
 Prints held new (Make number size out) text = text ≡ codes "made\n"
 Prints held new (Eval source input turns) text = ShowsEval held source input turns text
 Prints held new (SelfRun number size steps) text =
-    Holds new self_image (λ to. (fields : ImageFields) × IsImage to fields × (text ≡ summary (length (made_text number size)) (run (boot_state fields []) None steps)))
+    Holds new self_image (λ to. (fields : ImageFields) × IsImage to fields ×
+    (text ≡ summary (length (made_text number size)) (run (boot_state fields []) None steps)))
 
 -- The whole text of the call: the line of the refusal, or else what the command prints; `usage` where the words are no command.
 abbrev pub Says : Held → Held → Option Command → List ℕ → Type 0

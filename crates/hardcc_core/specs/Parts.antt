@@ -55,7 +55,8 @@ pub record Leaves (told : Type 0) (old new : Held) (shelf : Type 0) (tells : Typ
   pub nothing_put : (status ≡ 2) ⊎ IsRefusal status ⊎ (status ≡ 9) ⊎ (status ≡ 10) → told → SameNames old new
   pub unless_accepted : told → (Accepts old command → ⊥) → SameNames old new
   pub put_unless_refused : status ≡ 8 → told → SameNames old new ⊎ Done old new command
-  pub said : (status ≡ 0) ⊎ (status ≡ 2) ⊎ IsRefusal status ⊎ (status ≡ 10) → told → tells → (text : List ℕ) × Says old new command text × (after ≡ before ++ text)
+  pub said : (status ≡ 0) ⊎ (status ≡ 2) ⊎ IsRefusal status ⊎ (status ≡ 10) → told → tells →
+      (text : List ℕ) × Says old new command text × (after ≡ before ++ text)
   pub part_said : status ≡ 8 → told → tells → (text : List ℕ) × Says old new command text × AppendsPart before after text
   pub silent : (status ≡ 7) ⊎ ((status ≡ 9) × (IsEval command → ⊥)) → tells → after ≡ before
   pub begun : status ≡ 9 → told → tells → (after ≡ before) ⊎ ((text : List ℕ) × Says old new command text × AppendsPart before after text)

@@ -20,7 +20,8 @@ HasRoom (Some c) = c.spare + 1 < 2 ^ 32
 
 -- trap 9 where 256 calls are active
 abbrev pub deep_lines : Counter → List Line
-deep_lines c = Step (Load c.spare c.global None) ∷ Step (Constant (c.spare + 1) 256) ∷ Step (Operate Ne (c.spare + 1) c.spare (c.spare + 1)) ∷ Step (Deep (c.spare + 1)) ∷ []
+deep_lines c = Step (Load c.spare c.global None) ∷ Step (Constant (c.spare + 1) 256) ∷ Step (Operate Ne (c.spare + 1) c.spare (c.spare + 1)) ∷
+    Step (Deep (c.spare + 1)) ∷ []
 
 -- the number is raised
 abbrev pub raise_lines : Counter → List Line

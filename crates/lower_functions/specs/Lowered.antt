@@ -29,7 +29,8 @@ extra_pairs recursive = if recursive then 2 else 0
 
 -- a recursive function counts its active calls in the global behind all others
 abbrev pub counter_with : ℕ → Bool → Function → Option Counter
-counter_with globals recursive f = if recursive then Some (record { global = globals; spare = free_of f + greatest (map statement_temps (body_of f.body)) }) else None
+counter_with globals recursive f =
+    if recursive then Some (record { global = globals; spare = free_of f + greatest (map statement_temps (body_of f.body)) }) else None
 
 -- where its names stand for this, and there are so many globals
 abbrev pub low_with : Bindings → ℕ → Bool → Function → MidFunction

@@ -42,7 +42,8 @@ callee_in callees name = slice_index_or callees name NoFunction
 -- functions are noted with numbers from k on, where others may follow
 abbrev pub NotesFrom : ℕ → List Function → List Callee → List Callee → Type 0
 NotesFrom k fs before after =
-    (name : ℕ) (rest : List Function) → or_called (callee_in after name) (called_in name (k + length fs) rest) ≡ or_called (callee_in before name) (called_in name k (fs ++ rest))
+    (name : ℕ) (rest : List Function) → or_called (callee_in after name) (called_in name (k + length fs) rest) ≡
+    or_called (callee_in before name) (called_in name k (fs ++ rest))
 
 -- the names as the meaning of the language has them
 abbrev pub meant : Names → meaning.Names
