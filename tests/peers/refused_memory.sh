@@ -73,6 +73,7 @@ printf '%s' '/* all kinds of tokens */ static const unsigned a[3] = {1, 2u, 3,},
 int main(void){ int i = 0; for (int k = 0; k < 3; k++) { if (a[k] == 2 ? i : b) continue; else { while (i--) ;
 do { i += f(k, i), g(); } while (0); } } return i; }' > whole.c
 printf 'int main(void){ out_word(((0x7fffffff))); out_word(1); out_word(2); out_word(3); out_word(4); return 4294967295u; }' > outputs.c
+printf '%s' 'int main(void){int a = in_word(); int b = in_word(); int c = in_word(); if ((a && b) || c) out_word(1); else out_word(2); return 0;}' > short.c
 printf '1 2 -3\n' > in
 
 calls=0
@@ -81,17 +82,17 @@ failed=0
 each() {
   wanted=$1
   shift
-  rm -f new.img
+  rm -f new.img self.img
   status=0
   COUNT=count LD_PRELOAD=./refuse.so "$program" "$@" > told || status=$?
   [ "$status" = "$wanted" ] || { echo "$*: status $status, not $wanted"; failed=$((failed + 1)); }
   most=$(cat count)
   for number in $(seq 1 "$most"); do
     calls=$((calls + 1))
-    rm -f new.img
+    rm -f new.img self.img
     status=0
     REFUSE=$number LD_PRELOAD=./refuse.so "$program" "$@" > told || status=$?
-    if [ "$status" != 9 ] || [ -s told ] || [ -e new.img ]; then
+    if [ "$status" != 9 ] || [ -s told ] || [ -e new.img ] || [ -e self.img ]; then
       echo "$*: allocation $number of $most refused: status $status"
       failed=$((failed + 1))
     fi
@@ -99,6 +100,9 @@ each() {
 }
 each 0 compile a.c new.img
 each 0 compile outputs.c new.img
+each 0 compile short.c new.img
+each 0 compile-split short.c new.img
+each 0 selfrun 1 1 100000
 each 3 compile whole.c new.img
 each 0 run a.img in 100
 each 4 run a.c in 100
