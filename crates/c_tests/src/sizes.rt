@@ -21,6 +21,9 @@ int a[9]; int main(void){a[1 + (2 + 3)] = 4; return 0;} => 8 21 6 4
 int a[9]; int main(void){a[0] = 4 + 5; return 0;} => 5 18 6 4
 int a[9]; int main(void){a[0] -= 4 + 5; return 0;} => 5 18 6 5
 int a[9]; int main(void){a[1 + (2 + (3 + 4))]++; return 0;} => 10 23 6 5
+int x; int main(void){(x) *= 1 + 2; return x;} => 5 17 6 4
+int a[9]; int main(void){(a[0]) -= 4 + 5; return 0;} => 6 19 6 5
+int a[9]; int main(void){((a[1 + (2 + 3)])) = 4; return 0;} => 10 23 6 4
 int a[2]; int main(void){return a[a[0]]++ + --a[1];} => 7 18 6 5
 int main(void){switch (1) {case 2: ;} return 0;} => 3 13 16 3
 int main(void){switch (1 + (2 + 3)) {} return 0;} => 6 15 12 4
@@ -76,7 +79,7 @@ fn sizes_are_those_of_the_table(rt: HostRuntime) -> Result<(), Fail> {
         assert!(rt; has_sizes(&rt, text, want)?, "the sizes of {text}");
         rows = rows.saturating_add(1);
     }
-    assert_eq!(rt; rows, 19);
+    assert_eq!(rt; rows, 22);
     Ok(())
 }
 
