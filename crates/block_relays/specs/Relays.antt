@@ -67,8 +67,7 @@ relay place c = close_items (Jump (place c))
 -- The items of the blocks, from block b on.
 abbrev pub put_blocks : (ℕ → Relays) → (ℕ → ℕ) → (b : ℕ) → List HardBlock → List (List Item)
 put_blocks relays place b [] = []
-put_blocks relays place b (k ∷ more) = map (put_item place b (relays b)) k.items ∷
-    (map (relay place) (goals b (relays b)) ++ put_blocks relays place (b + 1) more)
+put_blocks relays place b (k ∷ more) = map (put_item place b (relays b)) k.items ∷ (map (relay place) (goals b (relays b)) ++ put_blocks relays place (b + 1) more)
 
 -- q is p with blocks put behind its blocks.
 pub record HasRelays (relays : ℕ → Relays) (p q : HardProgram) : Type 0 where
@@ -89,5 +88,4 @@ pub record MayRelay (relays : ℕ → Relays) (p : HardProgram) : Type 0 where
   pub goes : (b t : ℕ) (i : Item) → Holds p b i → i.fix ≡ Block t → ((target : ℕ) × (i.instr ≡ J target)) ⊎ is_branch i.instr
   pub fits : (b t : ℕ) (i : Item) → Holds p b i → i.fix ≡ Block t → RelaysFit (relays b) i t
   pub no_number : (b t : ℕ) (i : Item) → Holds p b i → relays b ≡ Turned t → makes_number i ≡ false
-  pub returns : (b n rs : ℕ) (i : Item) → Holds p b i → i.instr ≡ Jr rs → MayFollow p b n →
-      (f caller : ℕ) × (n ≡ caller + 1) × IsOfFunction p b f × CallsFunction p caller f
+  pub returns : (b n rs : ℕ) (i : Item) → Holds p b i → i.instr ≡ Jr rs → MayFollow p b n → (f caller : ℕ) × (n ≡ caller + 1) × IsOfFunction p b f × CallsFunction p caller f

@@ -1,6 +1,5 @@
 -- The far form by lists, as it is built. It serves private contracts alone.
-use Rattle.std.specs.Prelude.{◌≡◌, ◌<◌, ℕ, ◌+◌, Bool, ◌==◌, ◌||◌, false, nat_lt, if◌then◌else◌, min, Option, Some, None, List, [], ◌∷◌, length, map}
-use Rattle.std.specs.Prelude.{slice_index, get_or, All}
+use Rattle.std.specs.Prelude.{◌≡◌, ◌<◌, ℕ, ◌+◌, Bool, ◌==◌, ◌||◌, false, nat_lt, if◌then◌else◌, min, Option, Some, None, List, [], ◌∷◌, length, map, slice_index, get_or, All}
 use Rattle.std.specs.List.{range_with_len}
 use Rattle.hard_code.specs.declared.code.Fix.{Fix}
 use Rattle.hard_code.specs.declared.code.Fix.TheVariants.{Plain, Block}
@@ -36,8 +35,7 @@ pub record SumsAre (starts : List ℕ) (blocks : List HardBlock) (sums : List �
 -- The goals of far branches, by the first block of each block's function and the words of each function.
 abbrev pub fars_by : (starts sums : List ℕ) → (b : ℕ) → List HardBlock → List (Option ℕ)
 fars_by starts sums b [] = []
-fars_by starts sums b (k ∷ more) = (if nat_lt 30000 (slice_index sums (slice_index starts b)) then first_goal b k.items else None) ∷
-    fars_by starts sums (b + 1) more
+fars_by starts sums b (k ∷ more) = (if nat_lt 30000 (slice_index sums (slice_index starts b)) then first_goal b k.items else None) ∷ fars_by starts sums (b + 1) more
 
 -- The places of blocks by the goals of their far branches, and last how many blocks there are.
 abbrev pub one_if : Option ℕ → ℕ

@@ -35,8 +35,7 @@ GoalThere starts entries fix = Unit {0}
 -- The words of items from an address on.
 abbrev pub put_words : (starts entries : List ℕ) → (back at : ℕ) → List Item → List ℕ
 put_words starts entries back at [] = []
-put_words starts entries back at (i ∷ more) = encoding (filled_with at (goal_at starts entries i.fix) back i.fix i.instr) ∷
-    put_words starts entries back (at + 4) more
+put_words starts entries back at (i ∷ more) = encoding (filled_with at (goal_at starts entries i.fix) back i.fix i.instr) ∷ put_words starts entries back (at + 4) more
 
 -- What writing an item asks.
 pub record ItemPuts (starts entries : List ℕ) (back at : ℕ) (i : Item) : Type 0 where

@@ -1,7 +1,6 @@
 -- The far form of branches: in a function of more than 30,000 words, heads counted, a conditional branch to another block than the
 -- next becomes the opposite branch to the block behind a block of its own, which jumps there.
-use Rattle.std.specs.Prelude.{ℕ, ◌+◌, Bool, true, false, ◌==◌, ◌&&◌, nat_lt, nat_le, if◌then◌else◌, Option, Some, None, zero, suc, List, [], ◌∷◌, ◌++◌, length}
-use Rattle.std.specs.Prelude.{map, max}
+use Rattle.std.specs.Prelude.{ℕ, ◌+◌, Bool, true, false, ◌==◌, ◌&&◌, nat_lt, nat_le, if◌then◌else◌, Option, Some, None, zero, suc, List, [], ◌∷◌, ◌++◌, length, map, max}
 use Rattle.hard_code.specs.declared.code.Fix.{Fix}
 use Rattle.hard_code.specs.declared.code.Fix.TheVariants.{Block}
 use Rattle.hard_code.specs.declared.code.Item.{Item}
@@ -66,8 +65,7 @@ far_place p = place_of (far_relays p)
 -- A block in its place, and the block that jumps on for it, if its branch is far.
 abbrev pub far_block : (ℕ → ℕ) → ℕ → Option ℕ → HardBlock → List HardBlock
 far_block place b None k = record { items = map (put_item place b Nothing) k.items; successors = map place k.successors } ∷ []
-far_block place b (Some t) k = record { items = map (put_item place b (Turned t)) k.items; successors = (place b + 1) ∷ place (b + 1) ∷ [] } ∷
-    record { items = relay place t; successors = place t ∷ [] } ∷ []
+far_block place b (Some t) k = record { items = map (put_item place b (Turned t)) k.items; successors = (place b + 1) ∷ place (b + 1) ∷ [] } ∷ record { items = relay place t; successors = place t ∷ [] } ∷ []
 
 -- The blocks, from block b on, by the goals of their far branches.
 abbrev pub far_blocks : (ℕ → ℕ) → (ℕ → Option ℕ) → ℕ → List HardBlock → List HardBlock
@@ -75,12 +73,7 @@ far_blocks place far b [] = []
 far_blocks place far b (k ∷ more) = far_block place b (far b) k ++ far_blocks place far (b + 1) more
 
 abbrev pub widened : HardProgram → HardProgram
-widened p = record {
-  blocks = far_blocks (far_place p) (far_of p) 0 p.blocks;
-  entries = map (far_place p) p.entries;
-  initial = p.initial;
-  memory_words = p.memory_words;
-}
+widened p = record { blocks = far_blocks (far_place p) (far_of p) 0 p.blocks; entries = map (far_place p) p.entries; initial = p.initial; memory_words = p.memory_words }
 
 -- q is p with the blocks of its far branches.
 abbrev pub Widened : HardProgram → HardProgram → Type 0

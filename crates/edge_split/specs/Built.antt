@@ -1,6 +1,5 @@
 -- The split form by lists, as it is built. It serves private contracts alone.
-use Rattle.std.specs.Prelude.{◌<◌, ℕ, ◌+◌, Bool, true, false, ◌&&◌, nat_le, if◌then◌else◌, min, Option, Some, None, List, [], ◌∷◌, length, map, get_or}
-use Rattle.std.specs.Prelude.{slice_set, All}
+use Rattle.std.specs.Prelude.{◌<◌, ℕ, ◌+◌, Bool, true, false, ◌&&◌, nat_le, if◌then◌else◌, min, Option, Some, None, List, [], ◌∷◌, length, map, get_or, slice_set, All}
 use Rattle.std.specs.List.{range_with_len}
 use Rattle.hard_code.specs.declared.code.Fix.{Fix}
 use Rattle.hard_code.specs.declared.code.Fix.TheVariants.{Block}

@@ -17,8 +17,7 @@ pub data IsFilled (p : HardProgram) (place : ℕ → ℕ) (b at : ℕ) (i : Item
   jump : (t z target : ℕ) → i.fix ≡ Block t → i.instr ≡ J z → x ≡ J target → jump_goal at target ≡ place t → IsFilled p place b at i x
   branch_eq : (t rs rt z imm : ℕ) → i.fix ≡ Block t → i.instr ≡ Beq rs rt z → x ≡ Beq rs rt imm → branch_goal at imm ≡ place t → IsFilled p place b at i x
   branch_ne : (t rs rt z imm : ℕ) → i.fix ≡ Block t → i.instr ≡ Bne rs rt z → x ≡ Bne rs rt imm → branch_goal at imm ≡ place t → IsFilled p place b at i x
-  call : (f z target : ℕ) → i.fix ≡ Function f → i.instr ≡ Jal z → x ≡ Jal target → jump_goal at target ≡ place (slice_index p.entries f) →
-      IsFilled p place b at i x
+  call : (f z target : ℕ) → i.fix ≡ Function f → i.instr ≡ Jal z → x ≡ Jal target → jump_goal at target ≡ place (slice_index p.entries f) → IsFilled p place b at i x
   high : (rt z : ℕ) → i.fix ≡ ReturnHigh → i.instr ≡ Lui rt z → x ≡ Lui rt (place (b + 1) / 2 ^ 16) → IsFilled p place b at i x
   low : (rt rs z : ℕ) → i.fix ≡ ReturnLow → i.instr ≡ Ori rt rs z → x ≡ Ori rt rs (place (b + 1) % 2 ^ 16) → IsFilled p place b at i x
 
@@ -33,5 +32,4 @@ pub record IsLaidOut (s : Signed) (text : List ℕ) (place : ℕ → ℕ) : Type
   pub base : place 0 ≡ 0x00400000
   pub next : (b : ℕ) → b < length s.program.blocks → place (b + 1) ≡ place b + 4 * length (items_of (headed s) b)
   pub size : place (length s.program.blocks) ≡ 0x00400000 + 4 * length text
-  pub word : (b k : ℕ) (i : Item) → b < length s.program.blocks → slice_get (items_of (headed s) b) k ≡ Some i →
-      Stands text s.program place b (place b + 4 * k) i
+  pub word : (b k : ℕ) (i : Item) → b < length s.program.blocks → slice_get (items_of (headed s) b) k ≡ Some i → Stands text s.program place b (place b + 4 * k) i

@@ -36,8 +36,7 @@ CanBePrepared = (s : Signed) → Apart s.program → Calm s.program → NeverRep
 
 -- With the lists of its text it is hardened.
 abbrev pub WordsAreHardened : Type 0
-WordsAreHardened = (s : Signed) (rows : List TypingRow) (windows aliases : List (ℕ × ℕ)) →
-    Prepared s → Guarded s.program → AreRows (text (headed s)) 0x00400000 rows →
+WordsAreHardened = (s : Signed) (rows : List TypingRow) (windows aliases : List (ℕ × ℕ)) → Prepared s → Guarded s.program → AreRows (text (headed s)) 0x00400000 rows →
     AreWindows (text (headed s)) windows → AreAliases (text (headed s)) 0x00400000 aliases → IsHardened (image_with s windows aliases)
 
 -- And it runs as the program of items, observed from outside, on every input; it is placed and never reports.

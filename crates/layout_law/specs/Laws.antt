@@ -43,8 +43,7 @@ SignedInStep = (s : Signed) (input : List ℕ) → Prepared s → AreWords input
 
 -- The words are the same observed from outside as the items.
 abbrev pub SignedWordsSame : Type 0
-SignedWordsSame = (s : Signed) (input : List ℕ) → Prepared s → AreWords input →
-    SameObserved (observed (boot_state (image (headed s)) input) None) (item_run s.program input)
+SignedWordsSame = (s : Signed) (input : List ℕ) → Prepared s → AreWords input → SameObserved (observed (boot_state (image (headed s)) input) None) (item_run s.program input)
 
 -- One word for each item, and seven for each head.
 abbrev pub TextLength : Type 0
@@ -52,8 +51,7 @@ TextLength = (s : Signed) → MarksFit s → length (text (headed s)) ≡ words 
 
 -- The starts of the words are the addresses of the blocks.
 abbrev pub StartsAreBlocks : Type 0
-StartsAreBlocks = (s : Signed) → Laying s → (w : ℕ) → IsStart (text (headed s)) 0x00400000 w ↔
-    ((b : ℕ) × (b < length s.program.blocks) × (w ≡ address (headed s) b))
+StartsAreBlocks = (s : Signed) → Laying s → (w : ℕ) → IsStart (text (headed s)) 0x00400000 w ↔ ((b : ℕ) × (b < length s.program.blocks) × (w ≡ address (headed s) b))
 
 -- ---- the lint
 

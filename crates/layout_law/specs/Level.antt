@@ -1,7 +1,6 @@
 -- The run of the words beside the run of the items: the same place, memory, HI, LO and registers after each number of steps,
 -- addresses standing for block numbers and return numbers. First what the layout relies on in each block.
-use Rattle.std.specs.Prelude.{◌≡◌, ◌≢◌, ◌≤◌, ◌<◌, ◌⊎◌, ◌↔◌, ℕ, ◌+◌, ◌*◌, ◌/◌, ◌^◌, Bool, true, false, if◌then◌else◌, Option, Some, None, List, [], ◌∷◌, ◌++◌}
-use Rattle.std.specs.Prelude.{length, slice_index, All}
+use Rattle.std.specs.Prelude.{◌≡◌, ◌≢◌, ◌≤◌, ◌<◌, ◌⊎◌, ◌↔◌, ℕ, ◌+◌, ◌*◌, ◌/◌, ◌^◌, Bool, true, false, if◌then◌else◌, Option, Some, None, List, [], ◌∷◌, ◌++◌, length, slice_index, All}
 use Rattle.hard_words.specs.Observed.{SameObserved}
 use Rattle.hard_words.specs.Stepping.{go, Always}
 use Rattle.mips_isa.specs.declared.instr.Instr.{Instr}
@@ -196,13 +195,11 @@ pub record InStep (p : HardProgram) (input : List ℕ) (n : ℕ) : Type 0 where
   pub level : Level p (go (items p) (first_spot p input) n).state (run (boot_state (image p) input) None n).state
 
 abbrev pub RunsInStep : Type 0
-RunsInStep = (p : HardProgram) (input : List ℕ) → Layable p → 0 < length p.blocks → Always (items p) (first_spot p input) (LawfulAt p) → (n : ℕ) →
-    InStep p input n
+RunsInStep = (p : HardProgram) (input : List ℕ) → Layable p → 0 < length p.blocks → Always (items p) (first_spot p input) (LawfulAt p) → (n : ℕ) → InStep p input n
 
 -- Where no item reports, the words are the same observed from outside as the items.
 abbrev pub WordsSame : Type 0
-WordsSame = (p : HardProgram) (input : List ℕ) → Layable p → 0 < length p.blocks → AreWords input → Always (items p) (first_spot p input) (LawfulAt p) →
-    NeverReports p →
+WordsSame = (p : HardProgram) (input : List ℕ) → Layable p → 0 < length p.blocks → AreWords input → Always (items p) (first_spot p input) (LawfulAt p) → NeverReports p →
     SameObserved (observed (boot_state (image p) input) None) (item_run p input)
 
 -- ---- what a signed program gives
@@ -238,8 +235,7 @@ pub record Entered (p : HardProgram) : Type 0 where
   pub some : 0 < length p.blocks
   pub two : (b : ℕ) → b < length p.blocks → 2 ≤ length (items_of p b)
   pub calls_go_on : (b f : ℕ) → CallsFunction p b f → b + 1 < length p.blocks
-  pub branches_go_on : (b t rs rt imm : ℕ) (i : Item) → Holds p b i → i.fix ≡ Block t → (i.instr ≡ Beq rs rt imm) ⊎ (i.instr ≡ Bne rs rt imm) →
-      b + 1 < length p.blocks
+  pub branches_go_on : (b t rs rt imm : ℕ) (i : Item) → Holds p b i → i.fix ≡ Block t → (i.instr ≡ Beq rs rt imm) ⊎ (i.instr ≡ Bne rs rt imm) → b + 1 < length p.blocks
   pub each : (c : ℕ) → 0 < c → c < length p.blocks → IsEntered p c
 
 -- The starts of the words are the addresses of the blocks.

@@ -1,6 +1,5 @@
 -- The run with heads beside the run of the items.
-use Rattle.std.specs.Prelude.{◌≡◌, ◌<◌, ◌⊎◌, ℕ, Bool, true, false, ◌==◌, ◌||◌, if◌then◌else◌, Some, None, List, [], ◌∷◌, length, slice_get, slice_index}
-use Rattle.std.specs.Prelude.{bit_xor}
+use Rattle.std.specs.Prelude.{◌≡◌, ◌<◌, ◌⊎◌, ℕ, Bool, true, false, ◌==◌, ◌||◌, if◌then◌else◌, Some, None, List, [], ◌∷◌, length, slice_get, slice_index, bit_xor}
 use Rattle.hard_words.specs.Observed.{SameObserved}
 use Rattle.hard_words.specs.Stepping.{go, Always}
 use Rattle.hard_code.specs.declared.code.Class.TheVariants.{Head}
@@ -84,6 +83,5 @@ HeadsSame = (s : Signed) (input : List ℕ) → Signing s → Always (items s.pr
 
 -- Where the program never reports, the words with heads are the same observed from outside as the run of items.
 abbrev pub HeadedWordsSame : Type 0
-HeadedWordsSame = (s : Signed) (input : List ℕ) → Laying s → Signing s → AreWords input →
-    ((input : List ℕ) → AreWords input → Always (items s.program) (first_spot s.program input) (LawfulAt s.program)) → NeverReports s.program →
+HeadedWordsSame = (s : Signed) (input : List ℕ) → Laying s → Signing s → AreWords input → ((input : List ℕ) → AreWords input → Always (items s.program) (first_spot s.program input) (LawfulAt s.program)) → NeverReports s.program →
     SameObserved (observed (boot_state (image (headed s)) input) None) (item_run s.program input)

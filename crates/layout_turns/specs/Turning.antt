@@ -11,5 +11,4 @@ use Rattle.layout_law.specs.Level.{Laying}
 
 -- Of a text whose blocks begin with heads, by the instructions of its words.
 abbrev pub TextTurned : Type 0
-TextTurned = (s : Signed) → Laying s → length s.marks ≡ length s.program.blocks → Turned s.program → (ws : List Instr) → IsTextOf (text (headed s)) ws →
-    turns.Turned ws
+TextTurned = (s : Signed) → Laying s → length s.marks ≡ length s.program.blocks → Turned s.program → (ws : List Instr) → IsTextOf (text (headed s)) ws → turns.Turned ws

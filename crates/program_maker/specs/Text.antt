@@ -38,8 +38,7 @@ call_line k = if k % 2 == 1 then numbered (codes "c = c + f") (k - 1) (codes "(c
 -- The function of an index, with its numbers.
 abbrev pub text_with : ℕ → Numbers → List ℕ
 text_with k m =
-    head_line k ++ (start_line m ++ (loop_line m ++ (mix_line m ++ (store_line m ++
-    (split_line m ++ (codes "}\n" ++ (call_line k ++ codes "return c;\n}\n")))))))
+    head_line k ++ (start_line m ++ (loop_line m ++ (mix_line m ++ (store_line m ++ (split_line m ++ (codes "}\n" ++ (call_line k ++ codes "return c;\n}\n")))))))
 
 abbrev pub function_text : (number k : ℕ) → List ℕ
 function_text number k = text_with k (numbers_of number k)

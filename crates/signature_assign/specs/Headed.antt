@@ -1,6 +1,5 @@
 -- What the heads of a program need of it, and how its run with heads stands beside its run without them.
-use Rattle.std.specs.Prelude.{◌≡◌, ◌≢◌, ◌≤◌, ◌<◌, ◌⊎◌, ℕ, ◌+◌, Bool, true, false, IsTrue, if◌then◌else◌, Option, Some, None, List, [], ◌∷◌, ◌++◌, length}
-use Rattle.std.specs.Prelude.{get_or, slice_get, slice_index, bit_xor}
+use Rattle.std.specs.Prelude.{◌≡◌, ◌≢◌, ◌≤◌, ◌<◌, ◌⊎◌, ℕ, ◌+◌, Bool, true, false, IsTrue, if◌then◌else◌, Option, Some, None, List, [], ◌∷◌, ◌++◌, length, get_or, slice_get, slice_index, bit_xor}
 use Rattle.hard_words.specs.Stepping.{Always, go}
 use Rattle.hard_words.specs.Observed.{SameObserved}
 use Rattle.hard_words.specs.Words.{AreWords}
@@ -101,8 +100,7 @@ pub data Stands (s : Signed) (start : Spot) (l : Spot) : Type 0 where
 -- the last item but one of its block names a block.
 pub record BlocksFit (p : HardProgram) : Type 0 where
   pub spares : (b k : ℕ) (i : Item) → slice_get (items_of p b) k ≡ Some i → Spares i
-  pub last_names : (b k rs rt imm : ℕ) (i : Item) → slice_get (items_of p b) k ≡ Some i → (i.instr ≡ Beq rs rt imm) ⊎ (i.instr ≡ Bne rs rt imm) →
-      k + 2 ≡ length (items_of p b) → (t : ℕ) × (i.fix ≡ Block t)
+  pub last_names : (b k rs rt imm : ℕ) (i : Item) → slice_get (items_of p b) k ≡ Some i → (i.instr ≡ Beq rs rt imm) ⊎ (i.instr ≡ Bne rs rt imm) → k + 2 ≡ length (items_of p b) → (t : ℕ) × (i.fix ≡ Block t)
 
 -- ---- the laws
 
@@ -110,8 +108,7 @@ pub record BlocksFit (p : HardProgram) : Type 0 where
 -- each of its states stands at a word of a head, or as a state of the run without heads but for the registers of the signatures.
 abbrev pub HeadsKeep : Type 0
 HeadsKeep = (s : Signed) → Apart s.program → HasSigns s → (input : List ℕ) → AreWords input →
-    SameObserved (signed_run s input) (item_run s.program input) × Always (items (headed s)) (first_spot (headed s) input)
-    (Stands s (first_spot s.program input))
+    SameObserved (signed_run s input) (item_run s.program input) × Always (items (headed s)) (first_spot (headed s) input) (Stands s (first_spot s.program input))
 
 -- And where the program's run never reports, the run with heads never does.
 abbrev pub HeadsNeverReport : Type 0

@@ -33,5 +33,4 @@ SmoothedKeepsCounts = (p : HardProgram) → Apart p → KeepsCounts p (smoothed 
 
 -- The far form of branches keeps that no edge is critical.
 abbrev pub WidenedKeepsSmooth : Type 0
-WidenedKeepsSmooth = (p : HardProgram) → WellFormed p → ((b : ℕ) → b < length p.blocks → Formed (items_of p b)) →
-    length p.blocks ≤ 65535 → Smooth p → Smooth (widened p)
+WidenedKeepsSmooth = (p : HardProgram) → WellFormed p → ((b : ℕ) → b < length p.blocks → Formed (items_of p b)) → length p.blocks ≤ 65535 → Smooth p → Smooth (widened p)
