@@ -120,7 +120,7 @@ image_of_blocks mid p i r d w g fits few =
 
 pub split_image_of_blocks : (mid : Mid) (p : HardProgram) (i : ImageFields) → IsReady mid → IsDoubled mid p → AreWords i.text → IsSplitImageOf p i → HardenedFits → IsSplitImageOfBlocks mid i
 split_image_of_blocks mid p i r d w g fits = record {
-  image = image_within mid p i (room p + 45 * length p.blocks) (most_split_blocks p) (words mid + 45 * (block_count mid + 2)) (3 * (block_count mid + branch_count mid + 2)) r d w g.image fits
+  within = image_within mid p i (room p + 45 * length p.blocks) (most_split_blocks p) (words mid + 45 * (block_count mid + 2)) (3 * (block_count mid + branch_count mid + 2)) r d w g.within fits
       (none_few (length i.aliases) (ap length g.no_aliases.none_listed)) (split_room_enough mid p r d.counts) (split_room mid p d.counts) (split_blocks mid p d.counts);
   no_aliases = g.no_aliases;
 }

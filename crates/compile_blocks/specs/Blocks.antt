@@ -61,7 +61,7 @@ IsImageOfBlocks mid image = IsImageOfBlocksWithin mid image (words mid) (block_c
 -- The same of the image of the program with its critical edges split: it has at most 45 words more for each block and three times as many
 -- starts, and no aliases.
 pub record IsSplitImageOfBlocks (mid : Mid) (image : ImageFields) : Type 0 where
-  pub image : IsImageOfBlocksWithin mid image (words mid + 45 * (block_count mid + 2)) (3 * (block_count mid + branch_count mid + 2))
+  pub within : IsImageOfBlocksWithin mid image (words mid + 45 * (block_count mid + 2)) (3 * (block_count mid + branch_count mid + 2))
   pub no_aliases : HasNoAliases image
 
 -- The places of the first functions of a program, on the way there. It serves a private contract alone.

@@ -89,7 +89,7 @@ compiles source c fields hardens stays is of =
 
 pub compiles_split : (source : List ℕ) (c : Resolved) (fields : ImageFields) → LoweredIsHardened → NodesStay → IsCheckedSource source c → IsSplitImageOfChecked c fields → CompilesSplit source fields
 compiles_split source c fields hardens stays is of = record {
-  compiles = compiles_within source c fields of.mid (words of.mid + 45 * (block_count of.mid + 2)) (3 * (block_count of.mid + branch_count of.mid + 2)) (60 * length source + 720000) 48000 hardens stays is of.lowered of.image.image
+  compiles = compiles_within source c fields of.mid (words of.mid + 45 * (block_count of.mid + 2)) (3 * (block_count of.mid + branch_count of.mid + 2)) (60 * length source + 720000) 48000 hardens stays is of.lowered of.image.within
       (λ h. more (words of.mid) (60 * length source) (block_count of.mid) (branch_count of.mid) h of.lowered.few_blocks) (times (block_count of.mid + branch_count of.mid + 2) of.lowered.few_blocks);
   no_aliases = of.image.no_aliases.none_listed;
   no_alias = of.image.no_aliases.none;

@@ -18,8 +18,8 @@ no_true e = cc
 -- ---- tests that pass at most at one place
 
 passes_none : {A : Type 0} (f : A → Bool) (xs : List A) → ((k : ℕ) (x : A) → slice_get xs k ≡ Some x → f x ≡ true → ⊥) → count_by f xs ≡ 0
-passes_none f [] no = refl
-passes_none f (x ∷ xs) no = by (f x) (count_by f (x ∷ xs)) (count_by f xs) (sum_by-cons (λ y. cond (f y) 1 0) x xs) (no zero x refl) (passes_none f xs (λ k y e. no (suc k) y e))
+passes_none f [] never = refl
+passes_none f (x ∷ xs) never = by (f x) (count_by f (x ∷ xs)) (count_by f xs) (sum_by-cons (λ y. cond (f y) 1 0) x xs) (never zero x refl) (passes_none f xs (λ k y e. never (suc k) y e))
   where
     by : (b : Bool) (all rest : ℕ) → all ≡ cond b 1 0 + rest → (b ≡ true → ⊥) → rest ≡ 0 → all ≡ 0
     by true all rest e n z = absurd (n refl)

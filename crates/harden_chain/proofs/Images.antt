@@ -151,4 +151,4 @@ pub room_enough : (p q : HardProgram) (most most_room : ℕ) → ComesOf p q mos
 room_enough p q most most_room g h = within (room q) most_room 66060288 g.room_within h
 
 pub split_image : (p q : HardProgram) (i : ImageFields) → IsOrderedSplit p q → IsImageOfOrdered q i → IsSplitImageOf p i
-split_image p q i g m = record { image = image_of_program p q i (most_split_blocks p) (room p + 45 * length p.blocks) g.comes m.image; no_aliases = m.no_aliases g.smooth }
+split_image p q i g m = record { within = image_of_program p q i (most_split_blocks p) (room p + 45 * length p.blocks) g.comes m.image; no_aliases = m.no_aliases g.smooth }

@@ -50,5 +50,5 @@ pub record HasNoAliases (i : ImageFields) : Type 0 where
 
 -- An image of the program with its critical edges split: its size is within what that can come to, and it has no aliases.
 pub record IsSplitImageOf (p : HardProgram) (i : ImageFields) : Type 0 where
-  pub image : IsImageWithin p i (room p + 45 * length p.blocks) (most_split_blocks p)
+  pub within : IsImageWithin p i (room p + 45 * length p.blocks) (most_split_blocks p)
   pub no_aliases : HasNoAliases i
