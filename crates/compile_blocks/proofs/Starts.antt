@@ -1,16 +1,10 @@
 -- The starts of an image as a list.
 use Rattle.std.proofs.Common.{◌≡◌, ◌≤◌, ◌<◌, ℕ, ◌+◌, arith, sym, ◌∙◌, subst, length, map}
-use Rattle.std.specs.Prelude.{Contains, sum_by}
+use Rattle.std.specs.Prelude.{Contains}
 use Rattle.std.specs.List.{range_with_len}
 use Rattle.std.proofs.lemmas.List.FromFn.{length-map-range_with_len, get_or-map-range_with_len}
 use Rattle.mips_isa.specs.Image.{ImageFields}
-use Rattle.mid_code.specs.declared.code.Mid.{Mid}
-use Rattle.mid_code.specs.Size.{block_count, branch_count}
-use Rattle.hard_code.specs.declared.code.HardProgram.{HardProgram}
-use Rattle.hard_code.specs.Counts.{branches}
-use Rattle.double_forms.specs.Laws.{CountsFit}
 use Rattle.image_fits.specs.Law.{HasStarts}
-use Rattle.harden_chain.specs.Image.{most_blocks}
 use Rattle.compile_blocks.specs.Blocks.{HasFewStarts}
 
 -- the list of the places that the starts are among

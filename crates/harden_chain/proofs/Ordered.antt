@@ -14,7 +14,6 @@ use Rattle.compare_pass.specs.Law.{SameCounts}
 use Rattle.block_schedule.specs.Scheduling.{scheduled_program}
 use Rattle.block_schedule.specs.Law.{KeepsCounts}
 use Rattle.harden_chain.proofs.Results.{for_ok, both_ok}
-use Rattle.harden_chain.specs.Image.{most_blocks}
 use Rattle.harden_chain.specs.Steps.{IsOrdered}
 
 pub both_same : (p g q : HardProgram) → SameRuns p g → SameRuns g q → SameRuns p q
