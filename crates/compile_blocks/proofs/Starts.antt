@@ -1,20 +1,14 @@
 -- The starts of an image as a list.
 use Rattle.std.proofs.Common.{◌≡◌, ◌≤◌, ◌<◌, ℕ, ◌+◌, arith, sym, ◌∙◌, subst, length, map}
-use Rattle.std.specs.Prelude.{Contains, sum_by}
+use Rattle.std.specs.Prelude.{Contains}
 use Rattle.std.specs.List.{range_with_len}
 use Rattle.std.proofs.lemmas.List.FromFn.{length-map-range_with_len, get_or-map-range_with_len}
 use Rattle.mips_isa.specs.Image.{ImageFields}
-use Rattle.mid_code.specs.declared.code.Mid.{Mid}
-use Rattle.mid_code.specs.Size.{block_count, branch_count}
-use Rattle.hard_code.specs.declared.code.HardProgram.{HardProgram}
-use Rattle.hard_code.specs.Counts.{branches}
-use Rattle.double_forms.specs.Laws.{CountsFit}
 use Rattle.image_fits.specs.Law.{HasStarts}
-use Rattle.harden_chain.specs.Image.{most_blocks}
 use Rattle.compile_blocks.specs.Blocks.{HasFewStarts}
 
 -- the list of the places that the starts are among
-listed : (i : ImageFields) (n m : ℕ) (place : ℕ → ℕ) → HasStarts i n place → n ≤ m → HasFewStarts i.text i.entry m
+pub listed : (i : ImageFields) (n m : ℕ) (place : ℕ → ℕ) → HasStarts i n place → n ≤ m → HasFewStarts i.text i.entry m
 listed i n m place s h = record {
   list = map place (range_with_len 0 n);
   few = subst (λ (k : ℕ). k ≤ m) (sym (length-map-range_with_len place 0 n)) h;
@@ -26,11 +20,3 @@ listed i n m place s h = record {
       where
         plain : (k : ℕ) → 0 + k ≡ k
         plain k = omega arith
-
--- of a doubled program: as many as its blocks and branches
-pub few_starts : (mid : Mid) (p : HardProgram) (i : ImageFields) (place : ℕ → ℕ) → CountsFit mid p → HasStarts i (most_blocks p) place → HasFewStarts i.text i.entry (block_count mid + branch_count mid + 2)
-few_starts mid p i place c s = listed i (most_blocks p) (block_count mid + branch_count mid + 2) place s
-    (by (length p.blocks) (sum_by (λ b. branches b.items) p.blocks) (block_count mid) (branch_count mid) c.blocks c.branches_same)
-  where
-    by : (l s b n : ℕ) → l ≡ b + 2 → s ≡ n → l + s ≤ b + n + 2
-    by l s b n e f = omega (arith, e, f)

@@ -18,6 +18,7 @@ use Rattle.double_law.specs.Law.{HasWords}
 use Rattle.double_law.specs.Runs.{blocks_seen}
 use Rattle.reached_words.specs.Reached.{NoDeadWords}
 use Rattle.harden_law.specs.Hardened.{IsHardened}
+use Rattle.harden_chain.specs.Image.{HasNoAliases}
 use Rattle.elf_image.specs.Bounds.{Fits}
 
 -- What is asked of a program in blocks: it is valid, its calls have room, it reads only what was written, its numbers are words, and it
@@ -36,21 +37,32 @@ pub record HasFewStarts (text : List ℕ) (entry n : ℕ) : Type 0 where
   pub few : length list ≤ n
   pub all : (w : ℕ) → IsStart text entry w → Contains list w
 
--- The image does on every input what the program in blocks does; it is hardened, and fits a file.
-pub record IsImageOfBlocks (mid : Mid) (image : ImageFields) : Type 0 where
+-- The image does on every input what the program in blocks does; it is hardened, fits a file, and has at most so many words and so many
+-- addresses at which a block starts.
+pub record IsImageOfBlocksWithin (mid : Mid) (image : ImageFields) (most_words most_starts : ℕ) : Type 0 where
   pub same : (input : List ℕ) → AreWords input → SameObserved (observed (boot_state image input) None) (blocks_seen mid input)
   pub hardened : IsHardened image
   pub placed : (input : List ℕ) → AreWords input → Placed image input
   pub unreported : (input : List ℕ) → AreWords input → Unreported image input
   pub fits : Fits image
-  pub words : length image.text ≤ words mid
+  pub words : length image.text ≤ most_words
   pub memory : image.memory_words ≡ 2 * cells mid
   -- there are at most as many windows as words,
   pub few_windows : length image.windows ≤ length image.text
-  -- at most so many addresses at which a block starts as the program has blocks, with one more for each branch and two for the whole,
-  pub few_starts : HasFewStarts image.text image.entry (block_count mid + branch_count mid + 2)
+  pub few_starts : HasFewStarts image.text image.entry most_starts
   -- and each word that neither begins a block nor is a break has a word before it
   pub no_dead_words : NoDeadWords image.text image.entry
+
+-- It has at most the words that the program comes to, and a block starts at most at so many addresses as the program has blocks, with one
+-- more for each branch and two for the whole.
+abbrev pub IsImageOfBlocks : Mid → ImageFields → Type 0
+IsImageOfBlocks mid image = IsImageOfBlocksWithin mid image (words mid) (block_count mid + branch_count mid + 2)
+
+-- The same of the image of the program with its critical edges split: it has at most 45 words more for each block and three times as many
+-- starts, and no aliases.
+pub record IsSplitImageOfBlocks (mid : Mid) (image : ImageFields) : Type 0 where
+  pub within : IsImageOfBlocksWithin mid image (words mid + 45 * (block_count mid + 2)) (3 * (block_count mid + branch_count mid + 2))
+  pub no_aliases : HasNoAliases image
 
 -- The places of the first functions of a program, on the way there. It serves a private contract alone.
 abbrev pub FitTo : Mid → ℕ → List Places → Type 0

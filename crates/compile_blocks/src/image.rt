@@ -3,15 +3,17 @@
 ghost use Rattle.std.specs.Prelude.{◌≡◌, IfOk};
 ghost use Rattle.hard_words.specs.Words.{AreWords};
 ghost use Rattle.elf_image.specs.Layout.{fields_of};
-ghost use Rattle.compile_blocks.specs.Blocks.{IsReady, IsImageOfBlocks};
+ghost use Rattle.compile_blocks.specs.Blocks.{IsReady, IsImageOfBlocks, IsSplitImageOfBlocks};
+ghost use Rattle.compile_blocks.specs.Steps.{IsDoubled};
 
 use crate::places::all_places;
 use duplicate_pass::duplicate;
 use elf_image::Image;
 use frame_plan::plan;
+use hard_code::HardProgram;
 use hard_words::OutOfMemory;
-use harden_chain::harden;
-use image_fits::hardened_fits;
+use harden_chain::{harden, harden_split};
+use image_fits::{aliases_are_few, hardened_fits};
 use mid_code::Mid;
 use std::alloc::Global;
 
@@ -19,6 +21,16 @@ use std::alloc::Global;
 fn see_words(words: &[u32])
     ensures { AreWords words.now }
 {}
+
+/// The program in blocks made twice, in two streams.
+fn double(alloc: Global, mid: &Mid) -> Result<HardProgram, OutOfMemory>
+    requires { IsReady mid.now }
+    ensures { IfOk result (IsDoubled mid.now) }
+{
+    let places = all_places(alloc, mid)?;
+    let frames = plan(alloc, mid)?;
+    duplicate(alloc, mid, places.as_slice(), &frames)
+}
 
 /// The hardened image of a program in blocks.
 ///
@@ -30,10 +42,25 @@ pub fn compile_blocks(alloc: Global, mid: &Mid) -> Result<Image, OutOfMemory>
     ensures { IfOk result (λ image. IsImageOfBlocks mid.now (fields_of image)) }
 {
     hardened_fits();
-    let places = all_places(alloc, mid)?;
-    let frames = plan(alloc, mid)?;
-    let doubled = duplicate(alloc, mid, places.as_slice(), &frames)?;
+    aliases_are_few();
+    let doubled = double(alloc, mid)?;
     let image = harden(alloc, doubled)?;
+    see_words(image.text.as_slice());
+    Ok(image)
+}
+
+/// The hardened image of a program in blocks with its critical edges split, so that it has no aliases.
+///
+/// # Errors
+///
+/// [`OutOfMemory`] where there is no memory.
+pub fn compile_blocks_split(alloc: Global, mid: &Mid) -> Result<Image, OutOfMemory>
+    requires { IsReady mid.now }
+    ensures { IfOk result (λ image. IsSplitImageOfBlocks mid.now (fields_of image)) }
+{
+    hardened_fits();
+    let doubled = double(alloc, mid)?;
+    let image = harden_split(alloc, doubled)?;
     see_words(image.text.as_slice());
     Ok(image)
 }

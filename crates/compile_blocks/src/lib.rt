@@ -5,4 +5,4 @@
 mod image;
 mod places;
 
-pub use image::compile_blocks;
+pub use image::{compile_blocks, compile_blocks_split};

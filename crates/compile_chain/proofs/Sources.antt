@@ -1,5 +1,5 @@
 -- What is promised of the source of an image, and why a source is refused.
-use Rattle.std.proofs.Common.{◌≡◌, ℕ, ◌+◌, ◌≤◌, arith, refl, sym, ap, ◌∙◌, subst, List, [], ◌∷◌, length}
+use Rattle.std.proofs.Common.{◌≡◌, ℕ, ◌+◌, ◌*◌, ◌≤◌, arith, le_trans, refl, sym, ap, ◌∙◌, subst, List, [], ◌∷◌, length}
 use Rattle.std.specs.Prelude.{Result, Ok, Err, Option, Some, None, map, sum}
 use Rattle.c_tree.specs.declared.tree.Program.{Program}
 use Rattle.c_tree.specs.Meaning.{source_names}
@@ -24,14 +24,18 @@ use Rattle.checked_labels.specs.Laws.{StaysLabelled}
 use Rattle.parsed_labels.specs.Laws.{ParsedIsLabelled}
 use Rattle.lowering_law.specs.Labels.{bare_clauses}
 use Rattle.lowering_law.specs.Programs.{with_bodies}
-use Rattle.lowered_image.specs.Law.{LoweredIsHardened}
-use Rattle.mid_code.specs.Size.{block_count, branch_count}
+use Rattle.check_rules.specs.Resolution.{IsChecked}
+use Rattle.lowered_image.specs.Law.{LoweredIsHardened, LoweredIsSmall}
+use Rattle.mid_code.specs.declared.code.Mid.{Mid}
+use Rattle.mid_code.specs.Size.{words, block_count, branch_count}
 use Rattle.compile_chain.proofs.Starts.{at_most}
-use Rattle.compile_law.specs.Hardened.{IsWithin}
+use Rattle.compile_law.specs.Hardened.{Hardened}
+use Rattle.compile_law.specs.Lowered.{IsLowered}
+use Rattle.compile_blocks.specs.Blocks.{IsReady, IsImageOfBlocksWithin}
 use Rattle.compile_chain.specs.declared.refusal.Refusal.{Refusal}
 use Rattle.compile_chain.specs.declared.refusal.Refusal.TheVariants.{TooLong, Lex, Parse, Check, OutOfMemory}
-use Rattle.compile_chain.specs.Parts.{lexer_refusal, IsCheckedTokens, IsImageOfChecked, RefusesTokens}
-use Rattle.compile_chain.specs.Compiled.{IsSource, IsAccepted, IsCheckedSource, IsRefused, IsNotCompiled, HasNoTree, IsFirstFault, Compiles}
+use Rattle.compile_chain.specs.Parts.{lexer_refusal, IsCheckedTokens, IsImageOfChecked, IsSplitImageOfChecked, RefusesTokens}
+use Rattle.compile_chain.specs.Compiled.{IsSource, IsAccepted, IsCheckedSource, IsRefused, IsNotCompiled, HasNoTree, IsFirstFault, Compiles, CompilesWithin, CompilesSplit}
 
 -- tokens are no more than the bytes behind each other's ends
 pub placed_length : (ts : List Token) (from end : ℕ) → ArePlaced from ts end → from + length ts ≤ end
@@ -55,23 +59,58 @@ checked_of source tokens c short lexed placed of = record {
   is_checked = of.is_checked;
 }
 
--- what the compiler promises of the image of what the checked program of a source is lowered to
-pub compiles : (source : List ℕ) (c : Resolved) (fields : ImageFields) → LoweredIsHardened → NodesStay → IsCheckedSource source c → IsImageOfChecked c fields → Compiles source fields
-compiles source c fields hardens stays is of =
-    let law = hardens is.program c of.mid fields is.shaped is.is_checked of.lowered
-    (record { same = of.image.same; hardened = of.image.hardened; placed = of.image.placed; words = of.image.words; memory = of.image.memory }) in
-    let within : IsWithin (program_nodes is.program) fields = subst (λ n. IsWithin n fields) (stays is.program c is.shaped is.is_checked) law.1 in
+-- what the checked program of a source is lowered to comes to at most 60 words for each byte of the source
+few_words : (source : List ℕ) (c : Resolved) (mid : Mid) → NodesStay → IsCheckedSource source c → IsLowered c mid → words mid ≤ 60 * length source
+few_words source c mid stays is of = by (words mid) (program_nodes c.program) (program_nodes is.program) (length source) of.few_words (stays is.program c is.shaped is.is_checked) is.few_nodes
+  where
+    by : (w n m l : ℕ) → w ≤ 60 * n → n ≡ m → m ≤ l → w ≤ 60 * l
+    by w n m l h e k = omega (arith, h, e, k)
+
+-- what the compiler promises of an image of what that is lowered to
+compiles_within : (source : List ℕ) (c : Resolved) (fields : ImageFields) (mid : Mid) (most_words most_starts m n : ℕ) → LoweredIsHardened → NodesStay → IsCheckedSource source c → IsLowered c mid →
+    IsImageOfBlocksWithin mid fields most_words most_starts → (words mid ≤ 60 * length source → most_words ≤ m) → most_starts ≤ n → CompilesWithin source fields m n
+compiles_within source c fields mid most_words most_starts m n hardens stays is of image small few =
+    let law : Hardened is.program fields × (fields.memory_words ≤ 65536) = hardens is.program c mid fields is.shaped is.is_checked of (record { same = image.same; hardened = image.hardened; placed = image.placed; memory = image.memory }) in
     record {
       program = is.program;
       is_source = is.is_source;
       hardened = law.0;
-      words = omega (arith, within.words, is.few_nodes);
-      memory = within.memory;
-      fits = of.image.fits;
-      few_windows = of.image.few_windows;
-      few_starts = at_most fields.text fields.entry (block_count of.mid + branch_count of.mid + 2) 16000 of.lowered.few_blocks of.image.few_starts;
-      no_dead_words = of.image.no_dead_words;
+      words = le_trans image.words (small (few_words source c mid stays is of));
+      memory = law.1;
+      fits = image.fits;
+      few_windows = image.few_windows;
+      few_starts = at_most fields.text fields.entry most_starts n few image.few_starts;
+      no_dead_words = image.no_dead_words;
     }
+
+pub compiles : (source : List ℕ) (c : Resolved) (fields : ImageFields) → LoweredIsHardened → NodesStay → IsCheckedSource source c → IsImageOfChecked c fields → Compiles source fields
+compiles source c fields hardens stays is of =
+    compiles_within source c fields of.mid (words of.mid) (block_count of.mid + branch_count of.mid + 2) (60 * length source) 16000 hardens stays is of.lowered of.image (λ h. h) of.lowered.few_blocks
+
+pub compiles_split : (source : List ℕ) (c : Resolved) (fields : ImageFields) → LoweredIsHardened → NodesStay → IsCheckedSource source c → IsSplitImageOfChecked c fields → CompilesSplit source fields
+compiles_split source c fields hardens stays is of = record {
+  compiles = compiles_within source c fields of.mid (words of.mid + 45 * (block_count of.mid + 2)) (3 * (block_count of.mid + branch_count of.mid + 2)) (60 * length source + 720000) 48000 hardens stays is of.lowered of.image.within
+      (λ h. more (words of.mid) (60 * length source) (block_count of.mid) (branch_count of.mid) h of.lowered.few_blocks) (times (block_count of.mid + branch_count of.mid + 2) of.lowered.few_blocks);
+  no_aliases = of.image.no_aliases.none_listed;
+  no_alias = of.image.no_aliases.none;
+}
+  where
+    more : (w m b n : ℕ) → w ≤ m → b + n + 2 ≤ 16000 → w + 45 * (b + 2) ≤ m + 720000
+    more w m b n h k = omega (arith, h, k)
+
+    times : (n : ℕ) → n ≤ 16000 → 3 * n ≤ 48000
+    times n h = omega (arith, h)
+
+-- what a checked program is lowered to is ready for the passes over blocks
+pub ready : (c : Resolved) (mid : Mid) → LoweredIsSmall → IsChecked c → IsLowered c mid → IsReady mid
+ready c mid small is of = record {
+  valid = of.valid;
+  shallow = of.shallow;
+  proper = of.proper;
+  has_words = of.has_words;
+  few_words = small c mid is of;
+  few_blocks = of.few_blocks;
+}
 
 pub accepted : (source : List ℕ) (c : Resolved) → IsCheckedSource source c → IsAccepted source
 accepted source c is = record {

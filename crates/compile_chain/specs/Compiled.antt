@@ -1,5 +1,5 @@
 -- Which sources are accepted, why the others are refused, and what is promised of the image of a source.
-use Rattle.std.specs.Prelude.{ℕ, ◌≡◌, ◌<◌, ◌≤◌, ◌*◌, List, length, Some, None, Ok, Err, codes}
+use Rattle.std.specs.Prelude.{ℕ, ◌≡◌, ◌<◌, ◌≤◌, ◌+◌, ◌*◌, List, [], length, Some, None, Ok, Err, codes}
 use Rattle.c_lexer.specs.declared.token.Token.{Token}
 use Rattle.c_lexer.specs.Tokens.{Tokens, first_names, number_of}
 use Rattle.c_tree.specs.declared.tree.Program.{Program}
@@ -15,6 +15,7 @@ use Rattle.check_rules.specs.declared.error.CheckError.{CheckError}
 use Rattle.check_rules.specs.declared.error.CheckError.TheVariants as checker
 use Rattle.check_rules.specs.Limits.{Resolved, checked, first_fault}
 use Rattle.mips_isa.specs.Image.{ImageFields}
+use Rattle.mips_isa.specs.Blocks.{IsAlias}
 use Rattle.elf_image.specs.Bounds.{Fits}
 use Rattle.elf_image.specs.Held.{IsImage}
 use Rattle.compile_law.specs.Hardened.{Hardened}
@@ -78,25 +79,43 @@ IsNotCompiled source (Parse error) = IsRefused source (Parse error)
 IsNotCompiled source (Check error) = IsRefused source (Check error)
 IsNotCompiled source OutOfMemory = Unit {0}
 
--- What is promised of the image that a source is compiled to: it is the hardened image of the source's program, it has at most 60 words
--- for each byte of the source and at most 65,536 words of memory, and a file can hold it; it has at most as many windows as words, at most
--- 16,000 addresses at which a block starts, and no dead word: each that neither begins a block nor is a break has a word before it.
-pub record Compiles (source : List ℕ) (fields : ImageFields) : Type 0 where
+-- What is promised of an image of a source: it is the hardened image of the source's program, it has at most so many words and at most
+-- 65,536 words of memory, and a file can hold it; it has at most as many windows as words, at most so many addresses at which a block
+-- starts, and no dead word: each that neither begins a block nor is a break has a word before it.
+pub record CompilesWithin (source : List ℕ) (fields : ImageFields) (most_words most_starts : ℕ) : Type 0 where
   pub program : Program
   pub is_source : IsSource source program
   pub hardened : Hardened program fields
-  pub words : length fields.text ≤ 60 * length source
+  pub words : length fields.text ≤ most_words
   pub memory : fields.memory_words ≤ 65536
   pub fits : Fits fields
   pub few_windows : length fields.windows ≤ length fields.text
-  pub few_starts : HasFewStarts fields.text fields.entry 16000
+  pub few_starts : HasFewStarts fields.text fields.entry most_starts
   pub no_dead_words : NoDeadWords fields.text fields.entry
+
+-- What is promised of the image that a source is compiled to: it has at most 60 words for each byte of the source, and at most 16,000
+-- addresses at which a block starts.
+abbrev pub Compiles : List ℕ → ImageFields → Type 0
+Compiles source fields = CompilesWithin source fields (60 * length source) 16000
+
+-- What is promised of the image of a source in which no edge is critical: it has at most 60 words for each byte of the source and 720,000
+-- more, and at most 48,000 addresses at which a block starts; its text has no aliases, so it lists none.
+pub record CompilesSplit (source : List ℕ) (fields : ImageFields) : Type 0 where
+  pub compiles : CompilesWithin source fields (60 * length source + 720000) 48000
+  pub no_aliases : fields.aliases ≡ []
+  pub no_alias : (u w : ℕ) → IsAlias fields.text fields.entry u w → ⊥
 
 -- What is promised of the bytes of that image.
 pub record IsCompiled (source image : List ℕ) : Type 0 where
   pub fields : ImageFields
   pub file : IsImage image fields
   pub compiles : Compiles source fields
+
+-- What is promised of the bytes of the image in which no edge is critical.
+pub record IsSplitCompiled (source image : List ℕ) : Type 0 where
+  pub fields : ImageFields
+  pub file : IsImage image fields
+  pub compiles : CompilesSplit source fields
 
 -- The numbers that the meaning of C takes for `main`, `in_word` and `out_word` are those that the lexer gives these spellings.
 pub record NamesAgree : Type 0 where

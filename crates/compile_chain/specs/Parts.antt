@@ -16,7 +16,7 @@ use Rattle.check_rules.specs.Limits.{Resolved, checked}
 use Rattle.mid_code.specs.declared.code.Mid.{Mid}
 use Rattle.mips_isa.specs.Image.{ImageFields}
 use Rattle.compile_law.specs.Lowered.{IsLowered}
-use Rattle.compile_blocks.specs.Blocks.{IsImageOfBlocks}
+use Rattle.compile_blocks.specs.Blocks.{IsImageOfBlocks, IsSplitImageOfBlocks}
 use Rattle.compile_chain.specs.declared.refusal.Refusal.{Refusal}
 use Rattle.compile_chain.specs.declared.refusal.Refusal.TheVariants.{TooLong, Lex, Parse, Check, OutOfMemory}
 use Rattle.compile_chain.specs.Compiled.{HasNoTree, IsFirstFault}
@@ -38,6 +38,12 @@ pub record IsImageOfChecked (c : Resolved) (fields : ImageFields) : Type 0 where
   pub mid : Mid
   pub lowered : IsLowered c mid
   pub image : IsImageOfBlocks mid fields
+
+-- that image with its critical edges split
+pub record IsSplitImageOfChecked (c : Resolved) (fields : ImageFields) : Type 0 where
+  pub mid : Mid
+  pub lowered : IsLowered c mid
+  pub image : IsSplitImageOfBlocks mid fields
 
 -- the checked program of the program that the tokens spell
 pub record IsCheckedTokens (tokens : List Token) (c : Resolved) : Type 0 where

@@ -4,7 +4,9 @@
 mod compiler;
 mod laws;
 mod refusal;
+mod split;
 
 pub use compiler::{LONGEST_SOURCE, checked_source, compile};
 pub use laws::names_agree;
 pub use refusal::Refusal;
+pub use split::compile_split;

@@ -1,10 +1,11 @@
 -- The image of a signed program.
-use Rattle.std.proofs.Common.{◌≡◌, ◌≤◌, ◌<◌, ℕ, ◌+◌, ◌*◌, arith, ap, refl, sym, ◌∙◌, subst, List, length, inl, inr}
+use Rattle.std.proofs.Common.{◌≡◌, ◌≤◌, ◌<◌, ℕ, ◌+◌, ◌*◌, arith, lt_of_lt_of_le, ap, refl, sym, ◌∙◌, subst, List, length, inl, inr}
 use Rattle.std.specs.Prelude.{All, None}
 use Rattle.hard_words.proofs.Observed.{same_transitive}
 use Rattle.mips_isa.specs.declared.instr.End.{End}
 use Rattle.mips_isa.specs.Runs.{observed}
 use Rattle.mips_isa.specs.Text.{IsText}
+use Rattle.mips_isa.specs.Blocks as text_blocks
 use Rattle.mips_isa.specs.Image.{ImageFields, boot_state}
 use Rattle.harden_lint.specs.declared.TypingRow.{TypingRow}
 use Rattle.harden_lint.specs.Rows.{AreRows}
@@ -26,9 +27,10 @@ use Rattle.layout_counts.specs.Counted.{WindowsOnce, WindowsAreFew}
 use Rattle.alias_lister.specs.Aliases as blocks
 use Rattle.harden_law.specs.Laws.{image_with, WordsAreHardened, WordsRunAs, WordsHaveWays}
 use Rattle.harden_law.specs.Hardened.{AreAliases}
-use Rattle.harden_chain.specs.Image.{IsImageOf, most_blocks}
-use Rattle.harden_chain.specs.Steps.{IsSignedOf, IsImageOfSigned, addressed}
-use Rattle.harden_chain.proofs.Lists.{text_aliases, pairs_there}
+use Rattle.smooth_law.specs.Smooth.{SmoothWordsHaveNoAlias}
+use Rattle.harden_chain.specs.Image.{IsImageOf, IsImageWithin, IsSplitImageOf, most_blocks, most_split_blocks}
+use Rattle.harden_chain.specs.Steps.{ComesOf, IsOrderedSplit, IsSignedOf, IsImageOfOrdered, IsImageOfSigned, addressed}
+use Rattle.harden_chain.proofs.Lists.{text_aliases, pairs_there, lists_none}
 
 -- a text that keeps the rules breaks none
 unbroken : (text : List ℕ) (entry a rule : ℕ) → WellTyped text entry → Breaks text entry a rule → ⊥
@@ -71,8 +73,8 @@ once t ws w = record { near = w.sound; once = λ j k h l e. same (pair_at ws j) 
 pub image_made : (s : Signed) (i : ImageFields) (starts : List ℕ) (pairs windows aliases : List (ℕ × ℕ)) (rows : List TypingRow) (t : List ℕ) → Prepared s → Guarded s.program →
     i ≡ record { entry = 0x00400000; text = t; initial = s.program.initial; memory_words = s.program.memory_words; windows = windows; aliases = aliases } →
     t ≡ text (headed s) → starts ≡ addresses (headed s) → blocks.AreAliases s pairs → AreWindows t windows → AreRows t 4194304 rows → aliases ≡ addressed starts pairs →
-    WordsAreHardened → WordsRunAs → WordsHaveWays → StartsAreBlocks → TextLength → WindowsAreFew → NoWordIsDead → PreparedHasStarts → IsImageOfSigned s i
-image_made s i starts pairs windows aliases rows t p g e f st a w r al hardened runs ways at long few alive begins = subst (IsImageOfSigned s) (sym (e ∙ whole)) made
+    WordsAreHardened → WordsRunAs → WordsHaveWays → StartsAreBlocks → TextLength → WindowsAreFew → NoWordIsDead → PreparedHasStarts → SmoothWordsHaveNoAlias → IsImageOfSigned s i
+image_made s i starts pairs windows aliases rows t p g e f st a w r al hardened runs ways at long few alive begins no_alias = subst (IsImageOfSigned s) (sym (e ∙ whole)) made
   where
     whole : ◌≡◌ {A = ImageFields} (record { entry = 0x00400000; text = t; initial = s.program.initial; memory_words = s.program.memory_words; windows = windows; aliases = aliases }) (image_with s windows aliases)
     whole = ap (λ (l : List ℕ). record { entry = 0x00400000; text = l; initial = s.program.initial; memory_words = s.program.memory_words; windows = windows; aliases = aliases }) f
@@ -80,11 +82,13 @@ image_made s i starts pairs windows aliases rows t p g e f st a w r al hardened 
     listed : aliases ≡ addressed (addresses (headed s)) pairs
     listed = al ∙ ap (λ (l : List ℕ). addressed l pairs) st
 
+    are_aliases : AreAliases (text (headed s)) 0x00400000 aliases
+    are_aliases = subst (λ (l : List (ℕ × ℕ)). AreAliases (text (headed s)) 0x00400000 l) (sym listed) (text_aliases s p.laying p.signs at ways pairs a)
+
     made : IsImageOfSigned s (image_with s windows aliases)
     made = record {
       runs = runs s windows aliases p;
-      hardened = hardened s rows windows aliases p g (subst (λ (l : List ℕ). AreRows l 4194304 rows) f r) (subst (λ (l : List ℕ). AreWindows l windows) f w)
-          (subst (λ (l : List (ℕ × ℕ)). AreAliases (text (headed s)) 0x00400000 l) (sym listed) (text_aliases s p.laying p.signs at ways pairs a));
+      hardened = hardened s rows windows aliases p g (subst (λ (l : List ℕ). AreRows l 4194304 rows) f r) (subst (λ (l : List ℕ). AreWindows l windows) f w) are_aliases;
       entry = refl;
       initial = refl;
       memory = refl;
@@ -92,21 +96,59 @@ image_made s i starts pairs windows aliases rows t p g e f st a w r al hardened 
       few_windows = few s windows p.laying g (once (text (headed s)) windows (subst (λ (l : List ℕ). AreWindows l windows) f w));
       no_dead_words = alive s p.laying;
       starts = λ n h. begins s windows aliases n p h;
+      no_aliases = λ smooth. let none : (u w : ℕ) → text_blocks.IsAlias (text (headed s)) 0x00400000 u w → ⊥ = no_alias s p.laying p.signs smooth in
+          record { none = none; none_listed = lists_none (text (headed s)) 0x00400000 aliases are_aliases none };
     }
 
--- of the program that the signed one comes of
-pub image_of_program : (p : HardProgram) (s : Signed) (i : ImageFields) → IsSignedOf p s → IsImageOfSigned s i → IsImageOf p i
-image_of_program p s i g m = record {
-  same = λ input w. same_transitive End (observed (boot_state i input) None) (item_run s.program input) (item_run p input) (m.runs.same input w) (g.same_runs input w);
+-- of the program in its order that the signed one comes of
+pub image_of_ordered : (p : HardProgram) (s : Signed) (i : ImageFields) → IsSignedOf p s → IsImageOfSigned s i → IsImageOfOrdered p i
+image_of_ordered p s i g m = record {
+  image = record {
+    same = λ input w. same_transitive End (observed (boot_state i input) None) (item_run s.program input) (item_run p input) (m.runs.same input w) (g.same_runs input w);
+    hardened = m.hardened;
+    placed = m.runs.placed;
+    unreported = m.runs.unreported;
+    entry = m.entry;
+    initial = m.initial ∙ g.initial;
+    memory = m.memory ∙ g.memory;
+    words = subst (λ (n : ℕ). n ≤ room p) (sym m.words) g.words_within;
+    few_windows = m.few_windows;
+    no_dead_words = m.no_dead_words;
+    place = address (headed s);
+    starts = m.starts (most_blocks p) g.few;
+  };
+  no_aliases = λ h. m.no_aliases (g.smooth h);
+}
+
+within : (a b c : ℕ) → a ≤ b → b ≤ c → a ≤ c
+within a b c h k = omega arith
+
+-- and of the program of which that comes
+pub image_of_program : (p q : HardProgram) (i : ImageFields) (most most_room : ℕ) → ComesOf p q most most_room → IsImageOf q i → IsImageWithin p i most_room most
+image_of_program p q i most most_room g m = record {
+  same = λ input w. same_transitive End (observed (boot_state i input) None) (item_run q input) (item_run p input) (m.same input w) (g.same_runs input w);
   hardened = m.hardened;
-  placed = m.runs.placed;
-  unreported = m.runs.unreported;
+  placed = m.placed;
+  unreported = m.unreported;
   entry = m.entry;
   initial = m.initial ∙ g.initial;
   memory = m.memory ∙ g.memory;
-  words = subst (λ (n : ℕ). n ≤ room p) (sym m.words) g.words_within;
+  words = within (length i.text) (room q) most_room m.words g.room_within;
   few_windows = m.few_windows;
   no_dead_words = m.no_dead_words;
-  place = address (headed s);
-  starts = m.starts (most_blocks p) g.few;
+  place = m.place;
+  starts = record {
+    start = λ w h. let b : (b : ℕ) × (b < most_blocks q) × (w ≡ m.place b) = m.starts.start w h in (b.0, lt_of_lt_of_le b.1 g.few, b.2);
+    in_text = m.starts.in_text;
+  };
 }
+
+-- the premises of its image
+pub few_enough : (p q : HardProgram) (most most_room : ℕ) → ComesOf p q most most_room → most ≤ 65535 → most_blocks q ≤ 65535
+few_enough p q most most_room g h = within (most_blocks q) most 65535 g.few h
+
+pub room_enough : (p q : HardProgram) (most most_room : ℕ) → ComesOf p q most most_room → most_room ≤ 66060288 → room q ≤ 66060288
+room_enough p q most most_room g h = within (room q) most_room 66060288 g.room_within h
+
+pub split_image : (p q : HardProgram) (i : ImageFields) → IsOrderedSplit p q → IsImageOfOrdered q i → IsSplitImageOf p i
+split_image p q i g m = record { within = image_of_program p q i (most_split_blocks p) (room p + 45 * length p.blocks) g.comes m.image; no_aliases = m.no_aliases g.smooth }

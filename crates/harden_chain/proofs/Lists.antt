@@ -58,6 +58,11 @@ pair_of_map f xs k h = get_or-map f xs k (0, 0) (0, 0) h
 
 -- ---- the aliases
 
+-- where no pair is an alias, none is listed
+pub lists_none : (t : List ℕ) (entry : ℕ) (pairs : List (ℕ × ℕ)) → AreAliases t entry pairs → ((u w : ℕ) → text_blocks.IsAlias t entry u w → ⊥) → pairs ≡ []
+lists_none t entry [] a none = refl
+lists_none t entry (p ∷ pairs) a none = absurd (none p.0 p.1 ((a.exact p.0 p.1).0 (0, omega arith, refl)))
+
 module _ (s : Signed) (l : Laying s) (signs : HasSigns s) (starts : StartsAreBlocks) (ways : WordsHaveWays) (pairs : List (ℕ × ℕ)) (g : blocks.AreAliases s pairs) where
   abbrev count : ℕ
   count = length s.program.blocks

@@ -13,22 +13,37 @@ use Rattle.reached_words.specs.Reached.{NoDeadWords}
 use Rattle.hard_code.specs.Heads.{headed}
 use Rattle.layout_law.specs.Layout.{words, address}
 use Rattle.layout_law.specs.Laws.{Prepared}
-use Rattle.harden_chain.specs.Image.{most_blocks}
+use Rattle.smooth_law.specs.Smooth.{Smooth}
+use Rattle.harden_chain.specs.Image.{most_blocks, most_split_blocks, IsImageOf, HasNoAliases}
 
--- A program with its checks and in its order.
-pub record IsOrdered (p q : HardProgram) : Type 0 where
+-- A program with its checks and in its order, to which heads may be set.
+pub record IsInOrder (p : HardProgram) : Type 0 where
+  pub apart : Apart p
+  pub guarded : Guarded p
+  pub calm : Calm p
+  pub never_reports : NeverReports p
+
+-- A program in its order that comes of a program, with at most so many blocks and room for at most so many words.
+pub record ComesOf (p q : HardProgram) (most most_room : ℕ) : Type 0 where
   pub same_runs : SameRuns p q
-  pub apart : Apart q
-  pub guarded : Guarded q
-  pub calm : Calm q
-  pub never_reports : NeverReports q
-  pub blocks : length q.blocks ≡ length p.blocks
-  pub branches_same : sum_by (λ b. branches b.items) q.blocks ≡ sum_by (λ b. branches b.items) p.blocks
-  pub room_within : room q ≤ room p
+  pub in_order : IsInOrder q
+  pub few : most_blocks q ≤ most
+  pub room_within : room q ≤ most_room
   pub initial : q.initial ≡ p.initial
   pub memory : q.memory_words ≡ p.memory_words
 
--- A signed program that comes of a program.
+-- A program with its checks and in its order.
+pub record IsOrdered (p q : HardProgram) : Type 0 where
+  pub comes : ComesOf p q (most_blocks p) (room p)
+  pub blocks : length q.blocks ≡ length p.blocks
+  pub branches_same : sum_by (λ b. branches b.items) q.blocks ≡ sum_by (λ b. branches b.items) p.blocks
+
+-- That program with its critical edges split.
+pub record IsOrderedSplit (p q : HardProgram) : Type 0 where
+  pub comes : ComesOf p q (most_split_blocks p) (room p + 45 * length p.blocks)
+  pub smooth : Smooth q
+
+-- A signed program that comes of a program in its order.
 pub record IsSignedOf (p : HardProgram) (s : Signed) : Type 0 where
   pub prepared : Prepared s
   pub guarded : Guarded s.program
@@ -37,6 +52,7 @@ pub record IsSignedOf (p : HardProgram) (s : Signed) : Type 0 where
   pub words_within : words s.program.blocks + 7 * length s.program.blocks ≤ room p
   pub initial : s.program.initial ≡ p.initial
   pub memory : s.program.memory_words ≡ p.memory_words
+  pub smooth : Smooth p → Smooth s.program
 
 -- Pairs of blocks as pairs of addresses.
 abbrev pub addressed : List ℕ → List (ℕ × ℕ) → List (ℕ × ℕ)
@@ -53,3 +69,9 @@ pub record IsImageOfSigned (s : Signed) (i : ImageFields) : Type 0 where
   pub few_windows : length i.windows ≤ length i.text
   pub no_dead_words : NoDeadWords i.text i.entry
   pub starts : (n : ℕ) → length s.program.blocks ≤ n → HasStarts i n (address (headed s))
+  pub no_aliases : Smooth s.program → HasNoAliases i
+
+-- An image of a program in its order.
+pub record IsImageOfOrdered (p : HardProgram) (i : ImageFields) : Type 0 where
+  pub image : IsImageOf p i
+  pub no_aliases : Smooth p → HasNoAliases i

@@ -1,6 +1,6 @@
 //! The image of a signed program.
 
-ghost use Rattle.std.specs.Prelude.{◌≡◌, ◌≤◌, ◌<◌, IfOk, List, All, length};
+ghost use Rattle.std.specs.Prelude.{◌≡◌, ◌≤◌, ◌<◌, ◌+◌, ◌*◌, IfOk, List, All, length};
 ghost use Rattle.mips_isa.specs.Text.{IsText};
 ghost use Rattle.hard_code.specs.Rules.{Guarded, Twin};
 ghost use Rattle.hard_code.specs.Counts.{room};
@@ -11,10 +11,10 @@ ghost use Rattle.harden_lint.specs.Rules.{WellTyped};
 ghost use Rattle.harden_lint.specs.Rows.{AreRows};
 ghost use Rattle.harden_lint.specs.declared.TypingRow.{TypingRow};
 ghost use Rattle.layout_law.specs.Laws.{Prepared};
-ghost use Rattle.harden_chain.specs.Image.{most_blocks, IsImageOf};
-ghost use Rattle.harden_chain.specs.Steps.{IsImageOfSigned, addressed};
+ghost use Rattle.harden_chain.specs.Image.{most_blocks, most_split_blocks, IsImageOf, IsSplitImageOf};
+ghost use Rattle.harden_chain.specs.Steps.{IsInOrder, IsImageOfOrdered, IsImageOfSigned, addressed};
 
-use crate::items::signed;
+use crate::items::{order, order_split, signed};
 use alias_lister::aliases;
 use code_layout::layout;
 use elf_image::{Aliases, Image, Windows};
@@ -26,6 +26,7 @@ use image_fits::prepared_has_starts;
 use layout_counts::windows_are_few;
 use layout_law::{starts_are_blocks, text_length, words_are_typed};
 use reached_words::no_word_is_dead;
+use smooth_law::smooth_words_have_no_alias;
 use std::alloc::Global;
 use window_lister::windows;
 
@@ -78,6 +79,7 @@ fn image_of(alloc: Global, signed: Signed) -> Result<Image, OutOfMemory>
     windows_are_few();
     no_word_is_dead();
     prepared_has_starts();
+    smooth_words_have_no_alias();
     let pairs = aliases(alloc, &signed)?;
     let laid = layout(alloc, &signed)?;
     let windows = listed(alloc, laid.text.as_slice())?;
@@ -97,6 +99,17 @@ fn image_of(alloc: Global, signed: Signed) -> Result<Image, OutOfMemory>
     })
 }
 
+/// The image of a program with its checks and in its order.
+fn image_of_ordered(alloc: Global, program: HardProgram) -> Result<Image, OutOfMemory>
+    requires in_order { IsInOrder program }
+    requires few { most_blocks program ≤ 65535 }
+    requires room { room program ≤ 66060288 }
+    ensures { IfOk result (λ image. IsImageOfOrdered program (fields_of image)) }
+{
+    let signed = signed(alloc, program)?;
+    image_of(alloc, signed)
+}
+
 /// The hardened image of a program whose streams are twins.
 ///
 /// # Errors
@@ -109,6 +122,22 @@ pub fn harden(alloc: Global, program: HardProgram) -> Result<Image, OutOfMemory>
     requires room { room program ≤ 66060288 }
     ensures { IfOk result (λ image. IsImageOf program (fields_of image)) }
 {
-    let signed = signed(alloc, program)?;
-    image_of(alloc, signed)
+    let ordered = order(alloc, program)?;
+    image_of_ordered(alloc, ordered)
+}
+
+/// The hardened image of a program whose streams are twins, with its critical edges split, so that it has no aliases.
+///
+/// # Errors
+///
+/// [`OutOfMemory`] where there is no memory.
+pub fn harden_split(alloc: Global, program: HardProgram) -> Result<Image, OutOfMemory>
+    requires twin { Twin program }
+    requires no_free_nop { HasNoFreeNop program }
+    requires few { most_split_blocks program ≤ 65535 }
+    requires room { room program + 45 * length program.blocks ≤ 66060288 }
+    ensures { IfOk result (λ image. IsSplitImageOf program (fields_of image)) }
+{
+    let ordered = order_split(alloc, program)?;
+    image_of_ordered(alloc, ordered)
 }

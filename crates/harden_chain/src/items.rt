@@ -4,21 +4,25 @@ ghost use Rattle.std.specs.Prelude.{◌≡◌, ◌≤◌, IfOk};
 ghost use Rattle.hard_code.specs.Rules.{Twin};
 ghost use Rattle.hard_code.specs.Counts.{room};
 ghost use Rattle.block_laws.specs.Counted.{HasNoFreeNop};
-ghost use Rattle.harden_chain.specs.Image.{most_blocks};
-ghost use Rattle.harden_chain.specs.Steps.{IsOrdered, IsSignedOf};
+ghost use Rattle.harden_chain.specs.Image.{most_blocks, most_split_blocks};
+ghost use Rattle.harden_chain.specs.Steps.{IsInOrder, IsOrdered, IsOrderedSplit, IsSignedOf};
 
 use block_schedule::interleave;
 use code_layout::widen;
 use compare_pass::guard;
+use edge_split::split;
 use hard_code::{HardProgram, Signed};
 use hard_words::OutOfMemory;
 use harden_law::can_be_prepared;
 use signature_assign::sign;
+use split_law::{
+    smoothed_is_smooth, smoothed_keeps_counts, smoothed_keeps_runs, widened_keeps_smooth,
+};
 use std::alloc::Global;
 use widen_law::{widened_keeps_counts, widened_keeps_runs, widened_reaches};
 
 /// Sets the checks, and then the streams in turn.
-fn order(alloc: Global, program: HardProgram) -> Result<HardProgram, OutOfMemory>
+pub(crate) fn order(alloc: Global, program: HardProgram) -> Result<HardProgram, OutOfMemory>
     requires twin { Twin program }
     requires no_free_nop { HasNoFreeNop program }
     ensures { IfOk result (IsOrdered program) }
@@ -27,19 +31,32 @@ fn order(alloc: Global, program: HardProgram) -> Result<HardProgram, OutOfMemory
     interleave(alloc, guarded)
 }
 
-/// The signed program: with checks, in order, with far branches where they are needed.
-pub(crate) fn signed(alloc: Global, program: HardProgram) -> Result<Signed, OutOfMemory>
+/// Sets the checks and the streams in turn, and splits the critical edges.
+pub(crate) fn order_split(alloc: Global, program: HardProgram) -> Result<HardProgram, OutOfMemory>
     requires twin { Twin program }
     requires no_free_nop { HasNoFreeNop program }
+    requires few { most_split_blocks program ≤ 65535 }
+    ensures { IfOk result (IsOrderedSplit program) }
+{
+    smoothed_keeps_runs();
+    smoothed_keeps_counts();
+    smoothed_is_smooth();
+    let ordered = order(alloc, program)?;
+    split(alloc, ordered)
+}
+
+/// The signed program: with far branches where they are needed, and the numbers of its heads.
+pub(crate) fn signed(alloc: Global, program: HardProgram) -> Result<Signed, OutOfMemory>
+    requires in_order { IsInOrder program }
     requires few { most_blocks program ≤ 65535 }
     requires room { room program ≤ 66060288 }
     ensures { IfOk result (IsSignedOf program) }
 {
     widened_keeps_runs();
     widened_keeps_counts();
+    widened_keeps_smooth();
     widened_reaches();
     can_be_prepared();
-    let ordered = order(alloc, program)?;
-    let wide = widen(alloc, ordered)?;
+    let wide = widen(alloc, program)?;
     sign(alloc, wide)
 }

@@ -39,6 +39,34 @@ end_of a n h e k = omega arith
 text_address : (text : List ℕ) (a : ℕ) → InText text a → is_in_text (length text) a ≡ true
 text_address text a t = in_it (length text) a t.aligned t.from (end_of a (length text) t.from t.aligned t.upto)
 
+-- ---- aliases
+
+module _ (image : ImageFields) (hardened : IsHardened image) where
+  alias_at : (k : ℕ) → k < length image.aliases → IsAlias image.text image.entry (pair_at image.aliases k).0 (pair_at image.aliases k).1
+  alias_at k l = (hardened.aliases.exact (pair_at image.aliases k).0 (pair_at image.aliases k).1).0 (k, l, here image.aliases k l)
+    where
+      here : (ps : List (ℕ × ℕ)) (k : ℕ) → k < length ps → get_or ps k ((pair_at ps k).0, (pair_at ps k).1) ≡ ((pair_at ps k).0, (pair_at ps k).1)
+      here [] k l = absurd (Rattle.std.proofs.Common.not-suc-le-zero l)
+      here (p ∷ ps) zero l = refl
+      here (p ∷ ps) (suc k) l = here ps k (Rattle.std.proofs.Common.le_of_suc-le-suc l)
+
+  aliases_are : AllByRecursion (λ p. IsAlias image.text image.entry p.0 p.1) image.aliases
+  aliases_are = each_from (λ p. IsAlias image.text image.entry p.0 p.1) image.aliases alias_at
+
+  aliases_rise : Rises image.aliases
+  aliases_rise = rises_from image.aliases hardened.aliases.ascending
+
+  module _ (n : ℕ) (place : ℕ → ℕ) (starts : HasStarts image n place) where
+    pick : (p : ℕ × ℕ) → IsAlias image.text image.entry p.0 p.1 → (x : ℕ) × Coded n place p x
+    pick (u, w) a =
+        let b : (b : ℕ) × (b < n) × (u ≡ place b) = starts.start u a.from in
+        let c : (b : ℕ) × (b < n) × (w ≡ place b) = starts.start w a.to in
+        let k : Coded n place (place b.0, place c.0) (b.0 * n + c.0) = code n place b.0 c.0 b.1 c.1 in
+        (b.0 * n + c.0, record { below = k.below; first = k.first ∙ sym b.2; second = k.second ∙ sym c.2 })
+
+    pub aliases_few : length image.aliases ≤ n * n
+    aliases_few = few_pairs n place (λ p. IsAlias image.text image.entry p.0 p.1) pick image.aliases aliases_are aliases_rise
+
 -- ---- windows
 
 critical_in : (text : List ℕ) (u r : ℕ) → Critical text u r → InText text u
@@ -95,7 +123,7 @@ module _ (decodes : EncodesDecoded) (image : ImageFields) (small : IsSmall image
   window_fits (a, r) (service h e) = both_true (is_in_text (length image.text) a) (nat_le 1 r && nat_le r 31) (text_address image.text a (in_text image.text a Syscall h)) (subst (λ (z : ℕ). (nat_le 1 z && nat_le z 31) ≡ true) (sym e) refl)
   window_fits (a, r) (result b e h w q) = both_true (is_in_text (length image.text) a) (nat_le 1 r && nat_le r 31) (text_address image.text a (in_text image.text a w.instr w.at)) (subst (λ (z : ℕ). (nat_le 1 z && nat_le z 31) ≡ true) (sym q) refl)
 
-  module _ (hardened : IsHardened image) (n : ℕ) (place : ℕ → ℕ) (starts : HasStarts image n place) (few : n ≤ 16000) where
+  module _ (hardened : IsHardened image) (n : ℕ) (place : ℕ → ℕ) (starts : HasStarts image n place) where
     start_in : (w : ℕ) → IsStart image.text image.entry w → InText image.text w
     start_in w s = starts.in_text w s
 
@@ -107,52 +135,28 @@ module _ (decodes : EncodesDecoded) (image : ImageFields) (small : IsSmall image
         (each_from (λ p. is_window (length image.text) p ≡ true) image.windows (λ k l. window_fits (pair_at image.windows k) (hardened.windows.sound k l)))
         (rises_from image.windows hardened.windows.ascending)
 
-    alias_at : (k : ℕ) → k < length image.aliases → IsAlias image.text image.entry (pair_at image.aliases k).0 (pair_at image.aliases k).1
-    alias_at k l = (hardened.aliases.exact (pair_at image.aliases k).0 (pair_at image.aliases k).1).0 (k, l, here image.aliases k l)
-      where
-        here : (ps : List (ℕ × ℕ)) (k : ℕ) → k < length ps → get_or ps k ((pair_at ps k).0, (pair_at ps k).1) ≡ ((pair_at ps k).0, (pair_at ps k).1)
-        here [] k l = absurd (Rattle.std.proofs.Common.not-suc-le-zero l)
-        here (p ∷ ps) zero l = refl
-        here (p ∷ ps) (suc k) l = here ps k (Rattle.std.proofs.Common.le_of_suc-le-suc l)
-
-    aliases_are : AllByRecursion (λ p. IsAlias image.text image.entry p.0 p.1) image.aliases
-    aliases_are = each_from (λ p. IsAlias image.text image.entry p.0 p.1) image.aliases alias_at
-
-    aliases_rise : Rises image.aliases
-    aliases_rise = rises_from image.aliases hardened.aliases.ascending
-
     alias_fits : (p : ℕ × ℕ) → IsAlias image.text image.entry p.0 p.1 → is_alias (length image.text) p ≡ true
     alias_fits (u, w) a = both_true (is_in_text (length image.text) u) (is_in_text (length image.text) w) (text_address image.text u (start_in u a.from)) (text_address image.text w (start_in w a.to))
 
     aliases_tell : IsTrue (Rattle.elf_image.specs.Bounds.all_ascending (is_alias (length image.text)) None image.aliases)
-    aliases_tell = tells (is_alias (length image.text)) None image.aliases tt (each_from (λ p. is_alias (length image.text) p ≡ true) image.aliases (λ k l. alias_fits (pair_at image.aliases k) (alias_at k l))) aliases_rise
-
-    pick : (p : ℕ × ℕ) → IsAlias image.text image.entry p.0 p.1 → (x : ℕ) × Coded n place p x
-    pick (u, w) a =
-        let b : (b : ℕ) × (b < n) × (u ≡ place b) = starts.start u a.from in
-        let c : (b : ℕ) × (b < n) × (w ≡ place b) = starts.start w a.to in
-        let k : Coded n place (place b.0, place c.0) (b.0 * n + c.0) = code n place b.0 c.0 b.1 c.1 in
-        (b.0 * n + c.0, record { below = k.below; first = k.first ∙ sym b.2; second = k.second ∙ sym c.2 })
-
-    few_aliases : length image.aliases ≤ 256000000
-    few_aliases = le_trans (few_pairs n place (λ p. IsAlias image.text image.entry p.0 p.1) pick image.aliases aliases_are aliases_rise) (Rattle.std.proofs.Math.Nat.mul-le-mul few few)
+    aliases_tell = tells (is_alias (length image.text)) None image.aliases tt (each_from (λ p. is_alias (length image.text) p ≡ true) image.aliases (λ k l. alias_fits (pair_at image.aliases k) (alias_at image hardened k l))) (aliases_rise image hardened)
 
     pub fits : Fits image
     fits = record {
       bounds = record {
-        sizes = record { some_text = some_text (text_place image.entry) (length image.text) entry_in.upto; text = le_trans small.text (omega arith); some_memory = small.some_memory; memory = le_trans small.memory (omega arith); initial = small.initial };
+        sizes = record { some_text = some_text (text_place image.entry) (length image.text) entry_in.upto; text = small.text; some_memory = small.some_memory; memory = le_trans small.memory (omega arith); initial = small.initial };
         entry = text_address image.text image.entry entry_in;
         windows = windows_tell;
         aliases = aliases_tell;
       };
-      whole = whole (length image.text) (length image.initial) (length image.windows) (length image.aliases) small.text (le_trans small.initial small.memory) small.windows few_aliases;
+      whole = whole (length image.text) (length image.initial) (length image.windows) (length image.aliases) small.text (le_trans small.initial small.memory) small.windows small.aliases;
     }
       where
         some_text : (k m : ℕ) → k < m → 1 ≤ m
         some_text k m h = omega arith
 
-        whole : (t i w a : ℕ) → t ≤ 62914560 → i ≤ 65536 → w ≤ t → a ≤ 256000000 → (4096 + 4 * t + 4095) / 4096 * 4096 + 4 * i + 8 * w + 8 * a + 52 + 240 ≤ 3221225472
+        whole : (t i w a : ℕ) → t ≤ 66060288 → i ≤ 65536 → w ≤ t → a ≤ 256000000 → (4096 + 4 * t + 4095) / 4096 * 4096 + 4 * i + 8 * w + 8 * a + 52 + 240 ≤ 3221225472
         whole t i w a h k l m = omega arith
 
 pub hardened_fits : EncodesDecoded → HardenedFits
-hardened_fits decodes image n place h s few small = fits decodes image small h n place s few
+hardened_fits decodes image n place h s small = fits decodes image small h n place s

@@ -1,5 +1,5 @@
 -- From the tree of a checked program to an image of its blocks.
-use Rattle.std.proofs.Common.{◌≡◌, ◌≤◌, ℕ, ◌+◌, ◌*◌, arith, ap, refl, sym, ◌∙◌, List, ◌++◌, le_trans}
+use Rattle.std.proofs.Common.{◌≡◌, ◌≤◌, ℕ, ◌+◌, ◌*◌, arith, ap, refl, sym, ◌∙◌, List, ◌++◌}
 use Rattle.std.specs.Prelude.{Option, Some, None, option_map}
 use Rattle.hard_words.specs.Observed.{Observation, SameObserved, renamed}
 use Rattle.hard_words.proofs.Observed.{same_transitive, same_renamed}
@@ -76,10 +76,7 @@ is_hardened runs p c m i s e g k = (
     hardened = k.hardened;
     placed = k.placed;
   },
-  record {
-    words = le_trans k.words g.few_words;
-    memory = small i.memory_words (global_cells m) m.chain_pairs k.memory g.valid.store_fits;
-  },
+  small i.memory_words (global_cells m) m.chain_pairs k.memory g.valid.store_fits,
 )
   where
     small : (a s q : ℕ) → a ≡ 2 * (s + q) → s + q ≤ 32768 → a ≤ 65536

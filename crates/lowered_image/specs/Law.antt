@@ -1,5 +1,5 @@
 -- How the tree's side and the side of the blocks come together: an image that does what the blocks do is the hardened image of the tree.
-use Rattle.std.specs.Prelude.{◌≡◌, ◌≤◌, ℕ, ◌*◌, None, List, Ok, length}
+use Rattle.std.specs.Prelude.{◌≡◌, ◌≤◌, ℕ, ◌*◌, None, List, Ok}
 use Rattle.hard_words.specs.Observed.{SameObserved}
 use Rattle.hard_words.specs.Words.{AreWords}
 use Rattle.mips_isa.specs.Runs.{observed}
@@ -8,7 +8,6 @@ use Rattle.mips_isa.specs.Faults.{Placed}
 use Rattle.c_tree.specs.declared.tree.Program.{Program}
 use Rattle.c_tree.specs.Meaning.{source_names}
 use Rattle.c_tree.specs.Shaped.{Shaped}
-use Rattle.c_tree.specs.Sizes.{program_nodes}
 use Rattle.check_rules.specs.Limits.{Resolved, checked}
 use Rattle.check_rules.specs.Resolution.{IsChecked}
 use Rattle.mid_code.specs.declared.code.Mid.{Mid}
@@ -18,26 +17,25 @@ use Rattle.double_law.specs.Runs.{blocks_seen}
 use Rattle.harden_law.specs.Hardened.{IsHardened}
 use Rattle.compile_law.specs.Same.{program_seen}
 use Rattle.compile_law.specs.Lowered.{IsLowered}
-use Rattle.compile_law.specs.Hardened.{Hardened, IsWithin}
+use Rattle.compile_law.specs.Hardened.{Hardened}
 
 -- The blocks do what the tree does, on each input of words.
 abbrev pub LoweredRuns : Type 0
 LoweredRuns = (program : Program) (c : Resolved) (mid : Mid) → Shaped program → checked source_names program ≡ Ok c → IsLowered c mid →
     (input : List ℕ) → AreWords input → SameObserved (blocks_seen mid input) (program_seen program input)
 
--- What is asked of an image of the blocks: it does what they do, it is hardened, its run is placed, it has at most their words, and memory
--- for their globals and their stack.
+-- What is asked of an image of the blocks: it does what they do, it is hardened, its run is placed, and it has memory for their globals and
+-- their stack.
 pub record IsImageOfLowered (mid : Mid) (image : ImageFields) : Type 0 where
   pub same : (input : List ℕ) → AreWords input → SameObserved (observed (boot_state image input) None) (blocks_seen mid input)
   pub hardened : IsHardened image
   pub placed : (input : List ℕ) → AreWords input → Placed image input
-  pub words : length image.text ≤ words mid
   pub memory : image.memory_words ≡ 2 * cells mid
 
--- Then the image is the hardened image of the tree, and within its bounds.
+-- Then the image is the hardened image of the tree, with at most 65,536 words of memory.
 abbrev pub LoweredIsHardened : Type 0
 LoweredIsHardened = (program : Program) (c : Resolved) (mid : Mid) (image : ImageFields) → Shaped program → checked source_names program ≡ Ok c →
-    IsLowered c mid → IsImageOfLowered mid image → Hardened program image × IsWithin (program_nodes c.program) image
+    IsLowered c mid → IsImageOfLowered mid image → Hardened program image × (image.memory_words ≤ 65536)
 
 -- And where the tree is checked the blocks come to at most 62,914,560 words.
 abbrev pub LoweredIsSmall : Type 0
