@@ -117,7 +117,7 @@ one_run held image input P Q x y =
 
 -- where an audit does not pass, the files were good
 fails_good : (held : Held) (command : Command) (error : AuditError) → FailsAudit held (Some command) error → AreGood held (files_of command)
-fails_good held (Compile source image) error x = absurd x
+fails_good held (Compile edges source image) error x = absurd x
 fails_good held (Run image input steps) error x = absurd x
 fails_good held (RunChanged image input steps fault) error x = absurd x
 fails_good held (Audit image input steps) error x = run_good held image input _ x
@@ -129,7 +129,7 @@ fails_good held (SelfRun number size steps) error x = absurd x
 
 -- no audit passes and does not
 passes_or_fails : (held : Held) (command : Command) (error : AuditError) → PassesAudit held (Some command) → FailsAudit held (Some command) error → ⊥
-passes_or_fails held (Compile source image) error p x = x
+passes_or_fails held (Compile edges source image) error p x = x
 passes_or_fails held (Run image input steps) error p x = x
 passes_or_fails held (RunChanged image input steps fault) error p x = x
 passes_or_fails held (Audit image input steps) error p x =

@@ -6,10 +6,12 @@ use Rattle.std.specs.Option.{option_map, option_and_then}
 use Rattle.std.specs.declared.alloc.Global.{Global}
 use Rattle.std.specs.declared.string.String.{String}
 use Rattle.hard_lines.specs.Numbers.{number_up_to}
+use Rattle.hardcc_core.specs.declared.command.CriticalEdges.{CriticalEdges}
+use Rattle.hardcc_core.specs.declared.command.CriticalEdges.TheVariants.{Kept, Split}
 
 -- A command with its files, each by its name, and its numbers.
 pub data Command : Type 0 where
-  Compile : (source image : List ℕ) → Command
+  Compile : (edges : CriticalEdges) (source image : List ℕ) → Command
   Run : (image input : List ℕ) (steps : ℕ) → Command
   RunChanged : (image input : List ℕ) (steps : ℕ) (fault : List ℕ) → Command
   Audit : (image input : List ℕ) (steps : ℕ) → Command
@@ -31,9 +33,9 @@ steps_of word = number_up_to 10000000 word
 abbrev pub list_command : (image : List ℕ) → Option Command
 list_command image = if is_name image then Some (ListPairs image) else None
 
--- `compile SRC IMG`
-abbrev pub compile_command : (source image : List ℕ) → Option Command
-compile_command source image = if is_name source && is_name image then Some (Compile source image) else None
+-- `compile SRC IMG`, and `compile-split SRC IMG`
+abbrev pub compile_command : CriticalEdges → (source image : List ℕ) → Option Command
+compile_command edges source image = if is_name source && is_name image then Some (Compile edges source image) else None
 
 -- `run IMG INPUT STEPS`
 abbrev pub run_command : (image input steps : List ℕ) → Option Command
@@ -89,7 +91,9 @@ self_image = codes "self.img"
 -- The command of the words of a command line, if they are the form of one.
 abbrev pub command_of : List (List ℕ) → Option Command
 command_of (word ∷ a ∷ []) = if bytes_eq word (codes "list") then list_command a else None
-command_of (word ∷ a ∷ b ∷ []) = if bytes_eq word (codes "compile") then compile_command a b else None
+command_of (word ∷ a ∷ b ∷ []) =
+    if bytes_eq word (codes "compile") then compile_command Kept a b
+    else (if bytes_eq word (codes "compile-split") then compile_command Split a b else None)
 command_of (word ∷ a ∷ b ∷ c ∷ []) =
     if bytes_eq word (codes "run") then run_command a b c
     else (if bytes_eq word (codes "make") then make_command a b c

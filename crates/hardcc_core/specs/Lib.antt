@@ -3,6 +3,7 @@ pub mod RefusalLines
 pub mod Failures
 pub mod Files
 pub mod Pairs
+pub mod Edges
 pub mod Tallies
 pub mod Outcomes
 pub mod Parts

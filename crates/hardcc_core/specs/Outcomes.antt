@@ -18,6 +18,7 @@ use Rattle.hardcc_core.specs.declared.failure.Failure.{Failure}
 use Rattle.hardcc_core.specs.Commands.{Command, Compile, Run, RunChanged, Audit, Campaign, ListPairs, Make, Eval, SelfRun, self_image}
 use Rattle.compile_chain.specs.Compiled.{IsSource, IsCompiled}
 use Rattle.hardcc_core.specs.Failures.{line_of}
+use Rattle.hardcc_core.specs.Edges.{IsImageFor}
 use Rattle.hardcc_core.specs.Files.{Held, Holds, File, SourceFile, ImageFile, InputFile, FaultFile, MadeFile, IsRunnable, IsInput, IsFault, HoldsRun, AreGood}
 use Rattle.hardcc_core.specs.Files.{LacksOne, HasBad}
 use Rattle.hardcc_core.specs.Pairs.{pair_lines}
@@ -30,7 +31,7 @@ IsRefusal status = (status ≡ 3) ⊎ (status ≡ 4) ⊎ (status ≡ 5) ⊎ (sta
 
 -- The files that a command reads, in the order of its words.
 abbrev pub files_of : Command → List File
-files_of (Compile source image) = SourceFile source ∷ []
+files_of (Compile edges source image) = SourceFile source ∷ []
 files_of (Run image input steps) = ImageFile image ∷ InputFile input ∷ []
 files_of (RunChanged image input steps fault) = ImageFile image ∷ InputFile input ∷ FaultFile fault ∷ []
 files_of (Audit image input steps) = ImageFile image ∷ InputFile input ∷ []
@@ -85,7 +86,7 @@ Accepts held (Some command) = AreGood held (files_of command) × PassesAudit hel
 -- The command puts a file of this name.
 abbrev pub Puts : Option Command → List ℕ → Type 0
 Puts None name = ⊥
-Puts (Some (Compile source image)) name = name ≡ image
+Puts (Some (Compile edges source image)) name = name ≡ image
 Puts (Some (Run image input steps)) name = ⊥
 Puts (Some (RunChanged image input steps fault)) name = ⊥
 Puts (Some (Audit image input steps)) name = ⊥
@@ -95,9 +96,10 @@ Puts (Some (Make number size out)) name = name ≡ out
 Puts (Some (Eval source input turns)) name = ⊥
 Puts (Some (SelfRun number size steps)) name = name ≡ self_image
 
--- The file that the command puts is what it is to be: an image of the source that the source's name held before; a made program.
+-- The file that the command puts is what it is to be: an image of the source that the source's name held before, of the form that the
+-- command promises; a made program.
 abbrev pub HasPut : Held → Held → Command → Type 0
-HasPut old new (Compile source image) = Holds old source (λ from. Holds new image (λ to. IsCompiled from to))
+HasPut old new (Compile edges source image) = Holds old source (λ from. Holds new image (λ to. IsImageFor edges from to))
 HasPut old new (Run image input steps) = Unit {0}
 HasPut old new (RunChanged image input steps fault) = Unit {0}
 HasPut old new (Audit image input steps) = Unit {0}
@@ -132,7 +134,7 @@ TellsAudit fields numbers steps text =
 
 -- What the command prints where its files are good: what it did, or what an audit found; of `selfrun` the run of the image that is put.
 abbrev pub Prints : Held → Held → Command → List ℕ → Type 0
-Prints held new (Compile source image) text = text ≡ codes "compiled\n"
+Prints held new (Compile edges source image) text = text ≡ codes "compiled\n"
 Prints held new (Run image input steps) text = ShowsRun held image input None steps text
 Prints held new (RunChanged image input steps fault) text =
     Holds held fault (λ file. (change : Change) × IsFault file change × ShowsRun held image input (Some change) steps text)

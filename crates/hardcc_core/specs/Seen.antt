@@ -4,7 +4,7 @@ use Rattle.hardcc_core.specs.declared.command.Command.TheVariants as code
 use Rattle.hardcc_core.specs.Commands as spec
 
 abbrev pub seen_command : Command → spec.Command
-seen_command (code.Compile words) = spec.Compile words.source.now words.image.now
+seen_command (code.Compile words) = spec.Compile words.edges words.source.now words.image.now
 seen_command (code.Run words) = spec.Run words.image.now words.input.now words.steps
 seen_command (code.Fault words) = spec.RunChanged words.image.now words.input.now words.steps words.fault.now
 seen_command (code.Audit words) = spec.Audit words.image.now words.input.now words.steps

@@ -12,7 +12,7 @@ use hard_lines::number_up_to;
 /// What the words of a command line ask for.
 #[derive(Drop)]
 pub(crate) enum Command<'a> {
-    /// The image of a source.
+    /// The image of a source, its critical edges split or not.
     Compile(CompileWords<'a>),
     /// The run of an image.
     Run(RunWords<'a>),
@@ -32,9 +32,21 @@ pub(crate) enum Command<'a> {
     Make(MakeWords<'a>),
 }
 
-/// The words `compile SRC IMG`.
+/// What becomes of the critical edges of a program that is compiled: those from a block with at least two successors to a block with at
+/// least two predecessors.
+#[derive(Clone, Copy)]
+pub(crate) enum CriticalEdges {
+    /// They stay as they are.
+    Kept,
+    /// Each gets a block of its own, so that the image has no aliases.
+    Split,
+}
+
+/// The words `compile SRC IMG`, or `compile-split SRC IMG`.
 #[derive(Drop)]
 pub(crate) struct CompileWords<'a> {
+    /// What becomes of critical edges.
+    pub(crate) edges: CriticalEdges,
     /// The name of the source, which is read.
     pub(crate) source: &'a str,
     /// The name of the image, which is put.
@@ -109,7 +121,9 @@ pub(crate) fn command_of(words: &Vec<String>) -> Option<Command<'_>>
         }
         [word, a, b] => {
             if word.as_str() == "compile" {
-                compile_words(a.as_str(), b.as_str())
+                compile_words(CriticalEdges::Kept, a.as_str(), b.as_str())
+            } else if word.as_str() == "compile-split" {
+                compile_words(CriticalEdges::Split, a.as_str(), b.as_str())
             } else {
                 None
             }
@@ -156,13 +170,17 @@ fn list_words<'a>(image: &'a str) -> Option<Command<'a>>
     Some(Command::List(ListWords { image }))
 }
 
-fn compile_words<'a>(source: &'a str, image: &'a str) -> Option<Command<'a>>
-    ensures { compile_command source.now image.now ≡ option_map seen_command result }
+fn compile_words<'a>(edges: CriticalEdges, source: &'a str, image: &'a str) -> Option<Command<'a>>
+    ensures { compile_command edges source.now image.now ≡ option_map seen_command result }
 {
     if source.is_empty() || image.is_empty() {
         return None;
     }
-    Some(Command::Compile(CompileWords { source, image }))
+    Some(Command::Compile(CompileWords {
+        edges,
+        source,
+        image,
+    }))
 }
 
 fn run_words<'a>(image: &'a str, input: &'a str, steps: &str) -> Option<Command<'a>>

@@ -3,21 +3,24 @@
 ghost use Rattle.std.specs.Prelude.{◌≡◌, ◌≤◌, [], ◌∷◌, Some, IsTrue, IfOk, IfErr, IsErrOf};
 ghost use Rattle.hard_shelf.specs.Outside.{Rose, SameNames};
 ghost use Rattle.hardcc_core.specs.Commands.{Compile};
-ghost use Rattle.compile_chain.specs.Compiled.{IsAccepted, IsCompiled, IsRefused};
+ghost use Rattle.compile_chain.specs.Compiled.{IsAccepted, IsNotCompiled};
+ghost use Rattle.elf_image.specs.Bounds.{Fits};
+ghost use Rattle.elf_image.specs.Layout.{fields_of};
+ghost use Rattle.hardcc_core.specs.Edges.{CompilesFor, IsImageFor};
 ghost use Rattle.hardcc_core.specs.Files.{Holds, SourceFile};
 ghost use Rattle.hardcc_core.specs.Parts.{Leaves, Reads, RefusesBytes};
 
-use crate::command::CompileWords;
+use crate::command::{CompileWords, CriticalEdges};
 use crate::failure::{Failure, report};
 use crate::put_file::put_and_say;
 use crate::take::take_file;
-use compile_chain::{LONGEST_SOURCE, Refusal, compile};
-use elf_image::write_image;
+use compile_chain::{LONGEST_SOURCE, Refusal, compile, compile_split};
+use elf_image::{Image, write_image};
 use hard_shelf::{Shelf, Sink};
 use hard_words::OutOfMemory;
 use std::alloc::Global;
 
-/// The words `compile SRC IMG`: the image of the source is put, and `compiled` is written.
+/// The words `compile SRC IMG` and `compile-split SRC IMG`: the image of the source is put, and `compiled` is written.
 pub(crate) fn compile_file<H: Shelf, O: Sink>(
     alloc: Global,
     words: &CompileWords<'_>,
@@ -26,21 +29,26 @@ pub(crate) fn compile_file<H: Shelf, O: Sink>(
 ) -> u8
     ensures { Leaves (IsTrue (H.tells shelf.old)) (H.held shelf.old) (H.held shelf.new) (Rose (H.faults shelf.old) (H.faults shelf.new))
         (IsTrue (O.tells out.old)) (O.written out.old) (O.written out.new) (Rose (O.faults out.old) (O.faults out.new))
-        (Some (Compile words.now.source.now words.now.image.now)) result }
+        (Some (Compile words.now.edges words.now.source.now words.now.image.now)) result }
 {
-    match take_compiled(alloc, words.source, shelf) {
+    match take_compiled(alloc, words.edges, words.source, shelf) {
         Err(failure) => report(out, failure),
         Ok(file) => put_and_say(words.image, &file, b"compiled\n", shelf, out),
     }
 }
 
 // The file of the image of the source under a name.
-fn take_compiled<H: Shelf>(alloc: Global, source: &str, shelf: &mut H) -> Result<Vec<u8>, Failure>
+fn take_compiled<H: Shelf>(
+    alloc: Global,
+    edges: CriticalEdges,
+    source: &str,
+    shelf: &mut H,
+) -> Result<Vec<u8>, Failure>
     ensures tells { H.tells shelf.new ≡ H.tells shelf.old }
     ensures same { SameNames (H.held shelf.old) (H.held shelf.new) }
     ensures count { H.faults shelf.old ≤ H.faults shelf.new }
     ensures reads { Reads (IsTrue (H.tells shelf.old)) (H.held shelf.old) (Rose (H.faults shelf.old) (H.faults shelf.new)) (SourceFile source.now ∷ [])
-        (λ file. Holds (H.held shelf.old) source.now (λ bytes. IsAccepted bytes × IsCompiled bytes file.items)) result }
+        (λ file. Holds (H.held shelf.old) source.now (λ bytes. IsAccepted bytes × IsImageFor edges bytes file.items)) result }
 {
     match take_file(
         alloc,
@@ -50,21 +58,34 @@ fn take_compiled<H: Shelf>(alloc: Global, source: &str, shelf: &mut H) -> Result
         shelf,
     ) {
         Err(failure) => Err(failure),
-        Ok(bytes) => compiled(alloc, &bytes),
+        Ok(bytes) => compiled(alloc, edges, &bytes),
     }
 }
 
 // The file of the image of a source.
-fn compiled(alloc: Global, source: &[u8]) -> Result<Vec<u8>, Failure>
-    ensures ok { IfOk result (λ file. IsAccepted source.now × IsCompiled source.now file.items) }
+fn compiled(alloc: Global, edges: CriticalEdges, source: &[u8]) -> Result<Vec<u8>, Failure>
+    ensures ok { IfOk result (λ file. IsAccepted source.now × IsImageFor edges source.now file.items) }
     ensures explained { IfErr result (λ failure. RefusesBytes source.now failure) }
 {
-    match compile(alloc, source) {
+    match image_of(alloc, edges, source) {
         Err(Refusal::OutOfMemory) => Err(Failure::Memory),
         Err(refusal) => Err(Failure::Source(refusal)),
         Ok(image) => match write_image(alloc, &image) {
             Ok(file) => Ok(file),
             Err(OutOfMemory) => Err(Failure::Memory),
         },
+    }
+}
+
+// The image of a source.
+fn image_of(alloc: Global, edges: CriticalEdges, source: &[u8]) -> Result<Image, Refusal>
+    ensures ok { IfOk result (λ image. CompilesFor edges source.now (fields_of image)) }
+    ensures fits { IfOk result (λ image. Fits (fields_of image)) }
+    ensures accepted { IfOk result (λ image. IsAccepted source.now) }
+    ensures refused { IfErr result (λ refusal. IsNotCompiled source.now refusal) }
+{
+    match edges {
+        CriticalEdges::Kept => compile(alloc, source),
+        CriticalEdges::Split => compile_split(alloc, source),
     }
 }

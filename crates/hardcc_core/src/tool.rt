@@ -27,6 +27,7 @@ use std::alloc::Global;
 /// | Words | What is done |
 /// |---|---|
 /// | `compile SRC IMG` | the source is compiled, and its image put; `compiled` is written |
+/// | `compile-split SRC IMG` | the same, but each critical edge gets a block of its own, so that the image has no aliases |
 /// | `run IMG INPUT STEPS` | the image is run on the input, for at most so many steps; the run is written |
 /// | `fault IMG INPUT STEPS FAULTFILE` | the same with the change that the file of a fault says |
 /// | `audit IMG INPUT STEPS` | the audit of the image on the input, of at most so many steps, is made; what it finds is written |

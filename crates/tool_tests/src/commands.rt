@@ -87,6 +87,7 @@ fn refuses_with_the_written_lines(rt: HostRuntime) -> Result<(), Fail> {
     for (source, printed) in sources {
         assert!(rt; shelf.hold("a.c", source).is_ok());
         check(&rt, &mut shelf, "compile a.c a.img", 3, printed)?;
+        check(&rt, &mut shelf, "compile-split a.c a.img", 3, printed)?;
         assert!(rt; shelf.held("a.img").is_none());
     }
     assert!(rt; shelf.hold("a.c", FIRST).is_ok());
@@ -125,6 +126,11 @@ fn words_that_are_no_command_and_files_that_are_not_there(rt: HostRuntime) -> Re
         "compile a.c a.img x",
         "compile  a.img",
         "Compile a.c a.img",
+        "compile-split",
+        "compile-split a.c",
+        "compile-split a.c a.img x",
+        "compile-split  a.img",
+        "compile_split a.c a.img",
         "run a.img in 5 6",
         "run a.img in 10000001",
         "run a.img in 000000000000000000005",
@@ -143,6 +149,7 @@ fn words_that_are_no_command_and_files_that_are_not_there(rt: HostRuntime) -> Re
     }
     for line in [
         "compile a.c a.img",
+        "compile-split a.c a.img",
         "run a.img in 5",
         "fault a.img in 5 f",
         "list a.img",
@@ -158,13 +165,9 @@ fn long_sources_and_narrow_sinks(rt: HostRuntime) -> Result<(), Fail> {
     let mut shelf = MemoryShelf::new(rt.alloc());
     let long = vec![in rt.alloc(); b' '; 1_048_577]?;
     assert!(rt; shelf.hold("a.c", &long).is_ok());
-    check(
-        &rt,
-        &mut shelf,
-        "compile a.c a.img",
-        3,
-        b"source refused: TooLong\n",
-    )?;
+    for line in ["compile a.c a.img", "compile-split a.c a.img"] {
+        check(&rt, &mut shelf, line, 3, b"source refused: TooLong\n")?;
+    }
     assert!(rt;
         shelf
             .hold(

@@ -12,6 +12,8 @@ mod commands;
 #[cfg(test)]
 mod evals;
 #[cfg(test)]
+mod faults;
+#[cfg(test)]
 mod images;
 #[cfg(test)]
 mod programs;

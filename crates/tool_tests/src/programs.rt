@@ -137,8 +137,8 @@ fn goes_on_where_the_program_does(rt: HostRuntime) -> Result<(), Fail> {
     check(&rt, &mut shelf, "run a.img in 1", 0, b"going\n")
 }
 
-// What a call prints that ends with status 0.
-fn printed(
+/// What a call prints that ends with status 0.
+pub(crate) fn printed(
     rt: &(impl AllocGlobal + std::process::Abort),
     shelf: &mut MemoryShelf,
     line: &str,

@@ -1,7 +1,8 @@
 use Rattle.std.proofs.Common.{◌∙◌, Some, Err, ap, sym}
 use Rattle.compile_chain.specs.declared.refusal.Refusal.TheVariants.{TooLong}
 use Rattle.hardcc_core.specs.declared.failure.Failure.TheVariants.{Source}
-use Rattle.compile_chain.specs.Compiled.{IsAccepted, IsCompiled, longest_source}
+use Rattle.compile_chain.specs.Compiled.{IsAccepted, longest_source}
+use Rattle.hardcc_core.specs.Edges.{IsImageFor}
 use Rattle.hardcc_core.specs.Files.{SourceFile, BadSource}
 use Rattle.hardcc_core.proofs.Reading.{none_reads, compiled_reads}
 use Rattle.hardcc_core.proofs.compile_file.take_compiled.Goals as goal
@@ -14,5 +15,5 @@ returns-in-Err-clause-reads g c =
 -- it is compiled, or refused
 pub returns-in-Ok-clause-reads : goal.returns-in-Ok-clause-reads
 returns-in-Ok-clause-reads g c =
-    compiled_reads _ _ _ c.args.source.now c.deref.result.now (λ bytes file. IsAccepted bytes × IsCompiled bytes file.items) c.compiled.result
+    compiled_reads _ _ _ c.args.source.now c.deref.result.now (λ bytes file. IsAccepted bytes × IsImageFor c.args.edges bytes file.items) c.compiled.result
     (λ t. c.in-Ok.ensures.held t ∙ ap Some (sym c.deref.ensures.value)) c.compiled.ensures.ok c.compiled.ensures.explained
