@@ -30,7 +30,7 @@ stays p input n zero out r e h came = rw (add-zero n) came
 stays p input n (suc k) out r e h came =
     let c : Came p input (n + k) out r = stays p input n k out r e h came in
     let g : Went Spot = go (items p) (first_spot p input) (n + k) in
-    let is : after g (step_from p g.state g.state.end) ≡ g = rw (c.stands.ended ∙ h) refl in
+    let is : after g (step_from p g.state g.state.end) ≡ g = ap (λ (x : Option End). after g (step_from p g.state x)) (c.stands.ended ∙ h) in
     rw (add-suc n k) (record {
       stands = subst (λ (x : Went Spot). Stands p r x.state) (sym is) c.stands;
       puts = c.puts ∙ sym (ap (λ (x : Went Spot). x.output) is);

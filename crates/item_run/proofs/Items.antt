@@ -1,5 +1,5 @@
 -- What is known of an item of a well-formed program.
-use Rattle.std.proofs.Common.{◌≡◌, ◌<◌, ◌≤◌, ℕ, ◌+◌, ◌^◌, arith, ap, refl, sym, ◌∙◌, subst, List, [], length, inl, inr}
+use Rattle.std.proofs.Common.{◌≡◌, ◌<◌, ℕ, ◌+◌, ◌^◌, arith, subst, List, [], length, inl, inr}
 use Rattle.std.specs.Prelude.{Option, Some, None, slice_get, All}
 use Rattle.std.proofs.lemmas.Option.{slice_get_within, get_or_from_slice_get, slice_get_cases}
 use Rattle.std.proofs.lemmas.List.Elements.{All-get_or}
@@ -38,3 +38,10 @@ next_fits p b k i w h =
     let there : b < length p.blocks = item_block p b k i h in
     let few : length p.blocks < 2 ^ 32 = w.few_blocks in
     omega arith
+
+-- Where a block has an item, it is there.
+pub block_there : (p : HardProgram) (b k : ℕ) → k < length (items_of p b) → b < length p.blocks
+block_there p b k h = elim (slice_get_cases (items_of p b) k).1 [
+  | inl f ↦ item_block p b k f.0 f.2
+  | inr q ↦ absurd (omega (arith, h, q.0))
+]

@@ -1,12 +1,12 @@
 -- What is left of the items of a block.
 use Rattle.std.proofs.Common.{◌≡◌, ◌<◌, ◌≤◌, ℕ, suc, ◌+◌, arith, ap, refl, sym, ◌∙◌, List, [], ◌∷◌, length, drop, get_or, add-one, drop-cons}
-use Rattle.std.specs.Prelude.{Option, Some, None, slice_get, ◌⊎◌}
+use Rattle.std.specs.Prelude.{Some, None, slice_get}
 use Rattle.std.proofs.Common.{inl, inr}
 use Rattle.std.proofs.Math.ListN.{drop_of_length-le}
 use Rattle.std.proofs.lemmas.Option.{slice_get_within, get_or_from_slice_get, slice_get_cases}
 use Rattle.hard_code.specs.declared.code.Item.{Item}
 use Rattle.hard_code.specs.declared.code.HardProgram.{HardProgram}
-use Rattle.hard_code.specs.Run.{Data, Spot, Way, before, tail, items_of}
+use Rattle.hard_code.specs.Run.{Data, Way, before, tail, items_of}
 
 pub drop_some : (xs : List Item) (k : ℕ) (x : Item) → slice_get xs k ≡ Some x → drop k xs ≡ x ∷ drop (k + 1) xs
 drop_some xs k x h =
@@ -29,7 +29,7 @@ tail_nil l e = rw e refl
 -- Behind the item that is skipped.
 pub tail_drop : (xs : List Item) (k : ℕ) → tail (drop (k + 1) xs) ≡ drop (k + 2) xs
 tail_drop xs k = elim (slice_get_cases xs (k + 1)).1 [
-  | inl i ↦ tail_cons _ i.0 (drop (k + 2) xs) (drop_some xs (k + 1) i.0 i.2)
+  | inl i ↦ let n : k + 1 + 1 ≡ k + 2 = omega arith in tail_cons _ i.0 (drop (k + 2) xs) (drop_some xs (k + 1) i.0 i.2 ∙ ap (λ (m : ℕ). i.0 ∷ drop m xs) n)
   | inr q ↦ let far : length xs ≤ k + 2 = omega (arith, q.0) in tail_nil _ (drop_of_length-le xs q.0) ∙ sym (drop_of_length-le xs far)
 ]
 

@@ -1,16 +1,16 @@
 -- Steps of a runner and of a run beside each other.
-use Rattle.std.proofs.Common.{◌≡◌, ◌<◌, ℕ, ◌+◌, ap, refl, sym, ◌∙◌, subst, List, [], ◌∷◌, drop, Bool, true, false, cond}
-use Rattle.std.specs.Prelude.{Option, Some, None, slice_get, is_some}
+use Rattle.std.proofs.Common.{◌≡◌, ℕ, ◌+◌, ap, refl, sym, ◌∙◌, subst, List, [], ◌∷◌, drop, Bool, true, false, cond}
+use Rattle.std.specs.Prelude.{Option, Some, None, slice_get, is_some, not, ◌==◌, ◌%◌, nat_lt, length}
 use Rattle.mips_isa.specs.declared.instr.Act.{Act}
 use Rattle.mips_isa.specs.declared.instr.Act.TheVariants.{Write, Move, Both, Load, Store, Go, Link, Pass, Service, Stop}
 use Rattle.mips_isa.specs.declared.instr.End.{End}
 use Rattle.mips_isa.specs.declared.instr.End.TheVariants.{Exception}
-use Rattle.mips_isa.specs.Machine.{State, act, perform}
+use Rattle.mips_isa.specs.Machine.{State, reg, act, perform, in_memory}
 use Rattle.mips_machine.specs.View.{state_of}
 use Rattle.hard_code.specs.declared.code.Item.{Item}
 use Rattle.hard_code.specs.declared.code.HardProgram.{HardProgram}
 use Rattle.hard_code.specs.Run as run
-use Rattle.hard_code.specs.Run.{Data, Spot, items, items_of, item_act, machine_of, numbered, completed, do_item, settled, step_from, arrived, way_of, data_after}
+use Rattle.hard_code.specs.Run.{Data, Spot, items, items_of, item_act, machine_of, numbered, completed, do_item, settled, step_from, step_rest, arrived, way_of, data_after}
 use Rattle.item_run.specs.declared.runner.Way.{Way}
 use Rattle.item_run.specs.declared.runner.Runner.{Runner}
 use Rattle.item_run.specs.Standing.{way_seen, spot_of, resting, Standing, Stands, Stepped}
@@ -21,7 +21,7 @@ use Rattle.item_run.proofs.Lists.{drop_some, drop_none}
 -- After an end nothing happens.
 over_step : (p : HardProgram) (r : Runner) (s : Spot) (e : End) → r.machine.end ≡ Some e → Stands p r s → Stepped p r None ((items p).step s)
 over_step p r s e h st =
-    let is : step_from p s s.end ≡ (s, None) = rw (st.ended ∙ h) refl in
+    let is : step_from p s s.end ≡ (s, None) = ap (λ (x : Option End). step_from p s x) (st.ended ∙ h) in
     subst (λ (t : Spot × Option ℕ). Stepped p r None t) (sym is) (record { stands = st; puts = refl })
 
 some_end : (o : Option End) (b : Bool) → b ≡ is_some o → b ≡ true → (e : End) × (o ≡ Some e)
@@ -46,7 +46,7 @@ pub empty_step : (p : HardProgram) (r next : Runner) (s : Spot) → Standing p r
 empty_step p r next s st none e =
     let open_ : s.end ≡ None = ap (λ (x : Spot). x.end) st.place in
     let left : s.rest ≡ [] = ap (λ (x : Spot). x.rest) st.place ∙ drop_none (items_of p r.block) r.at none in
-    let is : step_from p s s.end ≡ (record s { end = Some (Exception 6 0) }, None) = rw (open_, left) refl in
+    let is : step_from p s s.end ≡ (record s { end = Some (Exception 6 0) }, None) = ap (λ (x : Option End). step_from p s x) open_ ∙ ap (λ (l : List Item). step_rest p s l) left in
     subst (λ (t : Spot × Option ℕ). Stepped p next None t) (sym is) (record {
       stands = record { ended = sym e; going = λ q. let no : None ≡ Some (Exception 6 0) = sym q ∙ e in cc };
       puts = refl;
@@ -58,7 +58,7 @@ item_step : (p : HardProgram) (r : Runner) (s : Spot) (i : Item) → Standing p 
 item_step p r s i st h =
     let open_ : s.end ≡ None = ap (λ (x : Spot). x.end) st.place in
     let left : s.rest ≡ i ∷ drop (r.at + 1) (items_of p r.block) = ap (λ (x : Spot). x.rest) st.place ∙ drop_some (items_of p r.block) r.at i h in
-    rw (open_, left) refl
+    ap (λ (x : Option End). step_from p s x) open_ ∙ ap (λ (l : List Item). step_rest p s l) left
 
 pub does_step : (p : HardProgram) (r next : Runner) (w : Option ℕ) (s : Spot) (i : Item) → Standing p r s → slice_get (items_of p r.block) r.at ≡ Some i →
     Stepped p next w (do_item p s i (drop (r.at + 1) (items_of p r.block)) (item_act s.block i s.now)) → Stepped p next w ((items p).step s)
@@ -86,7 +86,7 @@ ends_item p r next s i more a w b st is runs test holds =
     let there : (e : End) × (next.machine.end ≡ Some e) = some_end next.machine.end b test holds in
     let e : End = there.0 in
     let h : next.machine.end ≡ Some e = there.1 in
-    let found : do_item p s i more (item_act s.block i s.now) ≡ (record s { end = Some e }, None) = done p r s i more a (state_of next.machine) w st is runs ∙ rw h refl in
+    let found : do_item p s i more (item_act s.block i s.now) ≡ (record s { end = Some e }, None) = done p r s i more a (state_of next.machine) w st is runs ∙ ap (λ (x : Option End). settled p s i more a (state_of next.machine, w) x) h in
     subst (λ (t : Spot × Option ℕ). Stepped p next None t) (sym found) (record {
       stands = record { ended = sym h; going = λ q. let no : None ≡ Some e = sym q ∙ h in cc };
       puts = refl;
@@ -101,12 +101,12 @@ text_stays : (a : Act) (s : State) → (perform a s).0.text ≡ s.text
 text_stays (Write x v) s = refl
 text_stays (Move x v) s = refl
 text_stays (Both h l) s = refl
-text_stays (Load x a) s = either_text _ _ _ _ refl (either_text _ _ _ _ refl refl)
-text_stays (Store a v) s = either_text _ _ _ _ refl (either_text _ _ _ _ refl refl)
+text_stays (Load x a) s = either_text (not (a % 4 == 0)) _ _ _ refl (either_text (not (in_memory s a)) _ _ _ refl refl)
+text_stays (Store a v) s = either_text (not (a % 4 == 0)) _ _ _ refl (either_text (not (in_memory s a)) _ _ _ refl refl)
 text_stays (Go to) s = refl
 text_stays (Link to) s = refl
 text_stays Pass s = refl
-text_stays Service s = either_text _ _ _ _ refl (either_text _ _ _ _ (either_text _ _ _ _ refl refl) (either_text _ _ _ _ refl refl))
+text_stays Service s = either_text (reg s 2 == 1) _ _ _ refl (either_text (reg s 2 == 5) _ _ _ (either_text (nat_lt s.fed (length s.feed)) _ _ _ refl refl) (either_text (reg s 2 == 17) _ _ _ refl refl))
 text_stays (Stop e) s = refl
 
 -- The data behind an item are those of the machine at rest.
@@ -134,7 +134,7 @@ goes_item p r next now s i a w own b st is runs test fails rests leads arrives =
     let regs : s.now.regs ≡ r.machine.regs = ap (λ (x : State). x.regs) st.holds in
     let block : s.block ≡ r.block = ap (λ (x : Spot). x.block) st.place in
     let way : s.way ≡ way_seen r.way = ap (λ (x : Spot). x.way) st.place in
-    let first : do_item p s i more (item_act s.block i s.now) ≡ (arrived p s.way (way_of p i s.now i.instr) s.block more d, w) = done p r s i more a now w st is runs ∙ rw open_ refl in
+    let first : do_item p s i more (item_act s.block i s.now) ≡ (arrived p s.way (way_of p i s.now i.instr) s.block more d, w) = done p r s i more a now w st is runs ∙ ap (λ (x : Option End). settled p s i more a (now, w) x) open_ in
     let there : arrived p s.way (way_of p i s.now i.instr) s.block more d ≡ spot_of p next d =
     ap (λ (x : run.Way). arrived p x (way_of p i s.now i.instr) s.block more d) way
     ∙ (ap (λ (x : run.Way). arrived p (way_seen r.way) x s.block more d) (sym (leads s.now regs))

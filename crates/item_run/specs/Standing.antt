@@ -1,6 +1,6 @@
 -- For private contracts alone: when a runner stands where a run stands. Return numbers have no part in it, since no item asks for
 -- them.
-use Rattle.std.specs.Prelude.{◌≡◌, ℕ, List, drop, Option, Some, None, false}
+use Rattle.std.specs.Prelude.{◌≡◌, ℕ, List, drop, Option, None, false}
 use Rattle.hard_words.specs.Stepping.{go}
 use Rattle.mips_isa.specs.Machine.{State}
 use Rattle.mips_machine.specs.View.{state_of}

@@ -93,6 +93,7 @@ impl Runner {
     }
 
     // Does an item, which comes next.
+    #[tactic(auto, using(crate::proofs::Items::item_in_range, crate::proofs::Items::item_named, crate::proofs::Items::item_block, crate::proofs::Items::next_fits, std::proofs::lemmas::Option::slice_get_within))]
     fn do_item(&mut self, program: &HardProgram, item: Item) -> Option<u32>
         requires program { WellFormed program.now }
         requires item { slice_get (items_of program.now self.old.block) self.old.at ≡ Some item }
@@ -147,6 +148,7 @@ impl Runner {
     }
 
     // Goes where the item before the one that was done leads, which then goes its own way.
+    #[tactic(auto, using(crate::proofs::Lists::tail_drop))]
     fn arrive(&mut self, program: &HardProgram, own: Way)
         requires inside { self.old.at < length (items_of program.now self.old.block) }
         requires few { length program.now.blocks < 2 ^ 32 }
@@ -172,6 +174,7 @@ impl Runner {
     }
 
     // Goes past some items of the block, or to the next block, where there are no more.
+    #[tactic(auto, using(crate::proofs::Items::block_there))]
     fn pass(&mut self, program: &HardProgram, count: usize)
         requires inside { self.old.at < length (items_of program.now self.old.block) }
         requires few { length program.now.blocks < 2 ^ 32 }
@@ -182,10 +185,10 @@ impl Runner {
         let left = block_length(program, self.block) - self.at;
         if count < left {
             self.at += count;
-        } else {
-            self.block += 1;
-            self.at = 0;
+            return;
         }
+        self.block += 1;
+        self.at = 0;
     }
 }
 

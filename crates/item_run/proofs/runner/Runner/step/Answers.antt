@@ -1,6 +1,5 @@
 use Rattle.std.proofs.Common.{refl, sym}
-use Rattle.hard_code.specs.Run.{Spot}
-use Rattle.item_run.specs.Standing.{Stands, Standing}
+use Rattle.item_run.specs.Standing.{Standing}
 use Rattle.item_run.proofs.Steps.{over_test, open_test, empty_step, does_step}
 use Rattle.item_run.proofs.runner.Runner.step.Goals as goal
 
