@@ -1,13 +1,16 @@
 //! Programs, one for each construct, with what they put out and how they end by ISO/IEC 9899. Each is run as the language means it,
-//! and as items.
+//! as blocks, and as items whose code is made twice.
 
 use crate::doubled::doubled_program;
+use block_run::{BlockRan, run_blocks};
 use c_eval::{Evaluator, Turn};
 use c_tree::EvalEnd;
 use check_rules::Checked;
 use checked_labels::stays_labelled;
 use compile_chain::checked_source;
 use item_run::{ItemRan, run_items};
+use mid_code::RunEnd;
+use mid_lower::lower;
 use mips_isa::End;
 use parsed_labels::parsed_is_labelled;
 use std::alloc::Global;
@@ -26,6 +29,15 @@ fn ran(alloc: Global, source: &[u8], input: &[u32]) -> Result<ItemRan, Fail> {
         return Err("input")?;
     }
     Ok(run_items(alloc, &program, input, STEPS)?)
+}
+
+// The run of a source as blocks.
+fn ran_as_blocks(alloc: Global, source: &[u8], input: &[u32]) -> Result<BlockRan, Fail> {
+    parsed_is_labelled();
+    stays_labelled();
+    let checked = checked_source(alloc, source)?;
+    let mid = lower(alloc, &checked)?;
+    Ok(run_blocks(alloc, &mid, input, STEPS)?)
 }
 
 // Whether the language means that the source puts out these words and ends so.
@@ -59,7 +71,17 @@ fn item_end(end: EvalEnd) -> Option<End> {
     }
 }
 
-// Whether a source puts out these words on an input and ends so, both ways.
+// The end of the blocks for an end of the language.
+fn block_end(end: EvalEnd) -> Option<RunEnd> {
+    match end {
+        EvalEnd::Exited(word) => Some(RunEnd::Exited(word)),
+        EvalEnd::Trapped(number) => Some(RunEnd::Trapped(number)),
+        EvalEnd::Starved => Some(RunEnd::Starved),
+        EvalEnd::Going => None,
+    }
+}
+
+// Whether a source puts out these words on an input and ends so, all three ways.
 fn row(
     alloc: Global,
     source: &[u8],
@@ -69,8 +91,11 @@ fn row(
 ) -> Result<bool, Fail> {
     let checked = checked_source(alloc, source)?;
     let meant = means(alloc, &checked, input, words, end)?;
-    let found = ran(alloc, source, input)?;
-    Ok(meant && found.output.as_slice() == words && found.end == item_end(end))
+    let blocks = ran_as_blocks(alloc, source, input)?;
+    let lowered = blocks.output.as_slice() == words && blocks.end == block_end(end);
+    let items = ran(alloc, source, input)?;
+    let doubled = items.output.as_slice() == words && items.end == item_end(end);
+    Ok(meant && lowered && doubled)
 }
 
 const MINUS: u32 = 4_294_967_295;

@@ -1,7 +1,7 @@
 use Rattle.std.specs.Prelude.{Result, Ok, Err, IfOk}
 use Rattle.hard_code.specs.Rules.{Twin}
 use Rattle.hard_code.specs.WellFormed.{WellFormed}
-use Rattle.item_tests.proofs.doubled.doubled_program.Goals as goal
+use Rattle.middle_tests.proofs.doubled.doubled_program.Goals as goal
 
 if_ok : {A B : Type 0} (r : Result A B) (P Q : A → Type 0) → ((a : A) → P a → Q a) → IfOk r P → IfOk r Q
 if_ok (Ok a) P Q f h = f a h

@@ -1,6 +1,6 @@
 use Rattle.std.proofs.Common.{◌≡◌, length}
 use Rattle.compile_blocks.specs.Blocks.{FitTo}
-use Rattle.item_tests.proofs.doubled.all_places.Given as goal
+use Rattle.middle_tests.proofs.doubled.all_places.Given as goal
 
 abbrev pub invariant-loop-function : goal.invariant-loop-function
 invariant-loop-function l = record {
