@@ -1,4 +1,4 @@
-//! Tests of the code made twice: programs of the whole language run as items, and as the language means them.
+//! Tests of lowering and of the code made twice: programs of the whole language run as the language means them, as blocks and as items.
 #![tactic(auto)]
 
 mod doubled;
