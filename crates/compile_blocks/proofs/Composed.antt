@@ -107,6 +107,7 @@ image_within mid p i most_words most_starts m n r d w g fits few room small star
   few_windows = g.few_windows;
   few_starts = listed i most_starts n g.place g.starts starts;
   no_dead_words = g.no_dead_words;
+  in_turns = g.in_turns;
 }
 
 pub image_of_blocks : (mid : Mid) (p : HardProgram) (i : ImageFields) → IsReady mid → IsDoubled mid p → AreWords i.text → IsImageOf p i → HardenedFits → AliasesAreFew → IsImageOfBlocks mid i

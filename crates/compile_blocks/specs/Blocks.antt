@@ -18,7 +18,7 @@ use Rattle.double_law.specs.Law.{HasWords}
 use Rattle.double_law.specs.Runs.{blocks_seen}
 use Rattle.reached_words.specs.Reached.{NoDeadWords}
 use Rattle.harden_law.specs.Hardened.{IsHardened}
-use Rattle.harden_chain.specs.Image.{HasNoAliases}
+use Rattle.harden_chain.specs.Image.{IsInTurns, HasNoAliases}
 use Rattle.elf_image.specs.Bounds.{Fits}
 
 -- What is asked of a program in blocks: it is valid, its calls have room, it reads only what was written, its numbers are words, and it
@@ -50,8 +50,10 @@ pub record IsImageOfBlocksWithin (mid : Mid) (image : ImageFields) (most_words m
   -- there are at most as many windows as words,
   pub few_windows : length image.windows ≤ length image.text
   pub few_starts : HasFewStarts image.text image.entry most_starts
-  -- and each word that neither begins a block nor is a break has a word before it
+  -- each word that neither begins a block nor is a break has a word before it,
   pub no_dead_words : NoDeadWords image.text image.entry
+  -- and the streams take turns
+  pub in_turns : IsInTurns image.text
 
 -- It has at most the words that the program comes to, and a block starts at most at so many addresses as the program has blocks, with one
 -- more for each branch and two for the whole.

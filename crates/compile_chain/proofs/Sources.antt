@@ -81,6 +81,7 @@ compiles_within source c fields mid most_words most_starts m n hardens stays is 
       few_windows = image.few_windows;
       few_starts = at_most fields.text fields.entry most_starts n few image.few_starts;
       no_dead_words = image.no_dead_words;
+      in_turns = image.in_turns;
     }
 
 pub compiles : (source : List ℕ) (c : Resolved) (fields : ImageFields) → LoweredIsHardened → NodesStay → IsCheckedSource source c → IsImageOfChecked c fields → Compiles source fields

@@ -20,6 +20,7 @@ use Rattle.elf_image.specs.Bounds.{Fits}
 use Rattle.elf_image.specs.Held.{IsImage}
 use Rattle.compile_law.specs.Hardened.{Hardened}
 use Rattle.reached_words.specs.Reached.{NoDeadWords}
+use Rattle.harden_chain.specs.Image.{IsInTurns}
 use Rattle.compile_blocks.specs.Blocks.{HasFewStarts}
 use Rattle.compile_chain.specs.declared.refusal.Refusal.{Refusal}
 use Rattle.compile_chain.specs.declared.refusal.Refusal.TheVariants.{TooLong, Lex, Parse, Check, OutOfMemory}
@@ -81,7 +82,8 @@ IsNotCompiled source OutOfMemory = Unit {0}
 
 -- What is promised of an image of a source: it is the hardened image of the source's program, it has at most so many words and at most
 -- 65,536 words of memory, and a file can hold it; it has at most as many windows as words, at most so many addresses at which a block
--- starts, and no dead word: each that neither begins a block nor is a break has a word before it.
+-- starts, and no dead word: each that neither begins a block nor is a break has a word before it; and the words of its two streams take
+-- turns.
 pub record CompilesWithin (source : List ℕ) (fields : ImageFields) (most_words most_starts : ℕ) : Type 0 where
   pub program : Program
   pub is_source : IsSource source program
@@ -92,6 +94,7 @@ pub record CompilesWithin (source : List ℕ) (fields : ImageFields) (most_words
   pub few_windows : length fields.windows ≤ length fields.text
   pub few_starts : HasFewStarts fields.text fields.entry most_starts
   pub no_dead_words : NoDeadWords fields.text fields.entry
+  pub in_turns : IsInTurns fields.text
 
 -- What is promised of the image that a source is compiled to: it has at most 60 words for each byte of the source, and at most 16,000
 -- addresses at which a block starts.

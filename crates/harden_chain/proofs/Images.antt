@@ -23,6 +23,10 @@ use Rattle.layout_law.proofs.Texts.{length_text}
 use Rattle.window_lister.specs.WindowList.{AreWindows, Before, pair_at}
 use Rattle.image_fits.specs.Law.{PreparedHasStarts}
 use Rattle.reached_words.specs.Reached.{NoWordIsDead}
+use Rattle.mips_isa.specs.Turns.{IsTextOf}
+use Rattle.layout_law.proofs.Laying.{can_be_laid}
+use Rattle.layout_counts.proofs.Decoded.{instrs, text_decoded}
+use Rattle.layout_turns.specs.Turning.{TextTurned, TextTurnedThrough}
 use Rattle.layout_counts.specs.Counted.{WindowsOnce, WindowsAreFew}
 use Rattle.alias_lister.specs.Aliases as blocks
 use Rattle.harden_law.specs.Laws.{image_with, WordsAreHardened, WordsRunAs, WordsHaveWays}
@@ -73,8 +77,8 @@ once t ws w = record { near = w.sound; once = λ j k h l e. same (pair_at ws j) 
 pub image_made : (s : Signed) (i : ImageFields) (starts : List ℕ) (pairs windows aliases : List (ℕ × ℕ)) (rows : List TypingRow) (t : List ℕ) → Prepared s → Guarded s.program →
     i ≡ record { entry = 0x00400000; text = t; initial = s.program.initial; memory_words = s.program.memory_words; windows = windows; aliases = aliases } →
     t ≡ text (headed s) → starts ≡ addresses (headed s) → blocks.AreAliases s pairs → AreWindows t windows → AreRows t 4194304 rows → aliases ≡ addressed starts pairs →
-    WordsAreHardened → WordsRunAs → WordsHaveWays → StartsAreBlocks → TextLength → WindowsAreFew → NoWordIsDead → PreparedHasStarts → SmoothWordsHaveNoAlias → IsImageOfSigned s i
-image_made s i starts pairs windows aliases rows t p g e f st a w r al hardened runs ways at long few alive begins no_alias = subst (IsImageOfSigned s) (sym (e ∙ whole)) made
+    WordsAreHardened → WordsRunAs → WordsHaveWays → StartsAreBlocks → TextLength → WindowsAreFew → NoWordIsDead → PreparedHasStarts → SmoothWordsHaveNoAlias → TextTurned → TextTurnedThrough → IsImageOfSigned s i
+image_made s i starts pairs windows aliases rows t p g e f st a w r al hardened runs ways at long few alive begins no_alias turn through = subst (IsImageOfSigned s) (sym (e ∙ whole)) made
   where
     whole : ◌≡◌ {A = ImageFields} (record { entry = 0x00400000; text = t; initial = s.program.initial; memory_words = s.program.memory_words; windows = windows; aliases = aliases }) (image_with s windows aliases)
     whole = ap (λ (l : List ℕ). record { entry = 0x00400000; text = l; initial = s.program.initial; memory_words = s.program.memory_words; windows = windows; aliases = aliases }) f
@@ -84,6 +88,9 @@ image_made s i starts pairs windows aliases rows t p g e f st a w r al hardened 
 
     are_aliases : AreAliases (text (headed s)) 0x00400000 aliases
     are_aliases = subst (λ (l : List (ℕ × ℕ)). AreAliases (text (headed s)) 0x00400000 l) (sym listed) (text_aliases s p.laying p.signs at ways pairs a)
+
+    decoded_here : IsTextOf (text (headed s)) (instrs (headed s))
+    decoded_here = text_decoded (headed s) (can_be_laid s p.laying)
 
     made : IsImageOfSigned s (image_with s windows aliases)
     made = record {
@@ -98,6 +105,12 @@ image_made s i starts pairs windows aliases rows t p g e f st a w r al hardened 
       starts = λ n h. begins s windows aliases n p h;
       no_aliases = λ smooth. let none : (u w : ℕ) → text_blocks.IsAlias (text (headed s)) 0x00400000 u w → ⊥ = no_alias s p.laying p.signs smooth in
           record { none = none; none_listed = lists_none (text (headed s)) 0x00400000 aliases are_aliases none };
+      in_turns = λ h k. record {
+        instrs = instrs (headed s);
+        is_text = decoded_here;
+        turned = turn s p.laying p.signs.one_each h (instrs (headed s)) decoded_here;
+        turned_through = through s p.laying p.signs.one_each k (instrs (headed s)) decoded_here;
+      };
     }
 
 -- of the program in its order that the signed one comes of
@@ -114,6 +127,7 @@ image_of_ordered p s i g m = record {
     words = subst (λ (n : ℕ). n ≤ room p) (sym m.words) g.words_within;
     few_windows = m.few_windows;
     no_dead_words = m.no_dead_words;
+    in_turns = m.in_turns g.turned g.turned_through;
     place = address (headed s);
     starts = m.starts (most_blocks p) g.few;
   };
@@ -136,6 +150,7 @@ image_of_program p q i most most_room g m = record {
   words = within (length i.text) (room q) most_room m.words g.room_within;
   few_windows = m.few_windows;
   no_dead_words = m.no_dead_words;
+  in_turns = m.in_turns;
   place = m.place;
   starts = record {
     start = λ w h. let b : (b : ℕ) × (b < most_blocks q) × (w ≡ m.place b) = m.starts.start w h in (b.0, lt_of_lt_of_le b.1 g.few, b.2);

@@ -1,32 +1,49 @@
 -- What setting the checks and the order of the streams leave, one behind the other.
-use Rattle.std.proofs.Common.{◌≡◌, ◌≤◌, ℕ, ◌+◌, arith, ap, ◌∙◌, subst, length}
-use Rattle.std.specs.Prelude.{sum_by, Result, IfOk}
+use Rattle.std.proofs.Common.{◌≡◌, ◌≤◌, ℕ, ◌+◌, arith, ap, sym, ◌∙◌, subst, List, length}
+use Rattle.std.specs.Prelude.{not, true, ◌==◌, sum_by, All, Result, Ok, Err, IfOk}
+use Rattle.std.specs.List.{list_any}
 use Rattle.hard_words.proofs.Observed.{same_transitive}
 use Rattle.mips_isa.specs.declared.instr.End.{End}
 use Rattle.hard_code.specs.declared.code.HardProgram.{HardProgram}
 use Rattle.hard_code.specs.Run.{item_run}
 use Rattle.hard_code.specs.Rules.{Apart, Guarded, NeverReports, Twin}
-use Rattle.hard_code.specs.Counts.{Calm, branches, room}
+use Rattle.hard_code.specs.declared.code.Item.{Item}
+use Rattle.hard_code.specs.Streams.{touched}
+use Rattle.hard_code.specs.Counts.{Calm, Turned, TurnedThrough, branches, room}
 use Rattle.block_laws.specs.Runs.{SameRuns}
-use Rattle.block_laws.specs.Counted.{HasNoFreeNop}
+use Rattle.block_laws.specs.Counted.{HasNoFreeNop, AreBusy}
 use Rattle.compare_pass.specs.Guarding.{checked_program}
 use Rattle.compare_pass.specs.Law.{SameCounts}
 use Rattle.block_schedule.specs.Scheduling.{scheduled_program}
 use Rattle.block_schedule.specs.Law.{KeepsCounts}
-use Rattle.harden_chain.proofs.Results.{for_ok, both_ok}
 use Rattle.harden_chain.specs.Steps.{IsOrdered}
 
 pub both_same : (p g q : HardProgram) → SameRuns p g → SameRuns g q → SameRuns p q
 both_same p g q a b input w = same_transitive End (item_run q input) (item_run g input) (item_run p input) (b input w) (a input w)
 
-pub ordered : (p g q : HardProgram) → HasNoFreeNop p → SameRuns p g → Guarded g → Twin g → SameCounts p g → g.initial ≡ p.initial → g.memory_words ≡ p.memory_words →
-    SameRuns g q → Apart q → (NeverReports g → NeverReports q) → (Guarded g → Guarded q) → Calm q → KeepsCounts g q → q.initial ≡ g.initial → q.memory_words ≡ g.memory_words → IsOrdered p q
-ordered p g q free a guarded twin c i m b apart quiet checks calm k j n = record {
+-- what the order asks for stays with the checks
+still_free : (p g : HardProgram) → SameCounts p g → HasNoFreeNop p → HasNoFreeNop g
+still_free p g c free x = c.free_nops_same x ∙ free x
+
+still_busy : (p g : HardProgram) → SameCounts p g → AreBusy p → AreBusy g
+still_busy p g c busy x = subst (λ (l : List Item). All (λ i. list_any (λ r. not (r == 0)) (touched i.instr) ≡ true) l) (sym (c.streams_same x)) (busy x)
+
+pub ordered : (p g q : HardProgram) → HasNoFreeNop p → AreBusy p → SameRuns p g → Guarded g → Twin g → SameCounts p g → g.initial ≡ p.initial → g.memory_words ≡ p.memory_words →
+    SameRuns g q → Apart q → (NeverReports g → NeverReports q) → (Guarded g → Guarded q) → Calm q → KeepsCounts g q →
+    (HasNoFreeNop g → AreBusy g → Turned q) → (HasNoFreeNop g → AreBusy g → TurnedThrough q) → q.initial ≡ g.initial → q.memory_words ≡ g.memory_words → IsOrdered p q
+ordered p g q free busy a guarded twin c i m b apart quiet checks calm k turn through j n = record {
   comes = record {
     same_runs = both_same p g q a b;
-    in_order = record { apart = apart; guarded = checks guarded; calm = calm; never_reports = quiet twin.never_reports };
+    in_order = record {
+      apart = apart;
+      guarded = checks guarded;
+      calm = calm;
+      turned = turn (still_free p g c free) (still_busy p g c busy);
+      turned_through = through (still_free p g c free) (still_busy p g c busy);
+      never_reports = quiet twin.never_reports;
+    };
     few = by (length q.blocks) (length p.blocks) (sum_by (λ b. branches b.items) q.blocks) (sum_by (λ b. branches b.items) p.blocks) blocks branches_same;
-    room_within = subst (λ (z : ℕ). room q ≤ z) c.room_same (k.room_not_raised (λ x. c.free_nops_same x ∙ free x));
+    room_within = subst (λ (z : ℕ). room q ≤ z) c.room_same (k.room_not_raised (still_free p g c free));
     initial = j ∙ i;
     memory = n ∙ m;
   };
@@ -44,15 +61,10 @@ ordered p g q free a guarded twin c i m b apart quiet checks calm k j n = record
     by a b x y e f = omega (arith, e, f)
 
 -- what the order of a guarded program gives
-pub order_given : {E : Type 0} (p g : HardProgram) (r : Result HardProgram E) → HasNoFreeNop p → g ≡ checked_program p → SameRuns p g → Guarded g → Twin g → SameCounts p g →
-    IfOk r (λ q. q ≡ scheduled_program g) → IfOk r (SameRuns g) → IfOk r Apart → IfOk r (λ q. NeverReports g → NeverReports q) → IfOk r (λ q. Guarded g → Guarded q) → IfOk r Calm → IfOk r (KeepsCounts g) → IfOk r (IsOrdered p)
-order_given p g r free is a guarded twin c turn b apart quiet checks calm k =
-    for_ok r (λ q. (q ≡ scheduled_program g) × (SameRuns g q × (Apart q × ((NeverReports g → NeverReports q) × ((Guarded g → Guarded q) × (Calm q × KeepsCounts g q)))))) (IsOrdered p)
-    (both_ok r (λ q. q ≡ scheduled_program g) (λ q. SameRuns g q × (Apart q × ((NeverReports g → NeverReports q) × ((Guarded g → Guarded q) × (Calm q × KeepsCounts g q))))) turn
-    (both_ok r (SameRuns g) (λ q. Apart q × ((NeverReports g → NeverReports q) × ((Guarded g → Guarded q) × (Calm q × KeepsCounts g q)))) b
-    (both_ok r Apart (λ q. (NeverReports g → NeverReports q) × ((Guarded g → Guarded q) × (Calm q × KeepsCounts g q))) apart
-    (both_ok r (λ q. NeverReports g → NeverReports q) (λ q. (Guarded g → Guarded q) × (Calm q × KeepsCounts g q)) quiet
-    (both_ok r (λ q. Guarded g → Guarded q) (λ q. Calm q × KeepsCounts g q) checks
-    (both_ok r Calm (KeepsCounts g) calm k))))))
-    (λ q h. ordered p g q free a guarded twin c (ap (λ (z : HardProgram). z.initial) is) (ap (λ (z : HardProgram). z.memory_words) is)
-    h.1.0 h.1.1.0 h.1.1.1.0 h.1.1.1.1.0 h.1.1.1.1.1.0 h.1.1.1.1.1.1 (ap (λ (z : HardProgram). z.initial) h.0) (ap (λ (z : HardProgram). z.memory_words) h.0))
+pub order_given : {E : Type 0} (p g : HardProgram) (r : Result HardProgram E) → HasNoFreeNop p → AreBusy p → g ≡ checked_program p → SameRuns p g → Guarded g → Twin g → SameCounts p g →
+    IfOk r (λ q. q ≡ scheduled_program g) → IfOk r (SameRuns g) → IfOk r Apart → IfOk r (λ q. NeverReports g → NeverReports q) → IfOk r (λ q. Guarded g → Guarded q) → IfOk r Calm → IfOk r (KeepsCounts g) →
+    IfOk r (λ q. HasNoFreeNop g → AreBusy g → Turned q) → IfOk r (λ q. HasNoFreeNop g → AreBusy g → TurnedThrough q) → IfOk r (IsOrdered p)
+order_given p g (Ok q) free busy is guarded_runs guarded twin c order b apart quiet checks calm k turn through =
+    ordered p g q free busy guarded_runs guarded twin c (ap (λ (z : HardProgram). z.initial) is) (ap (λ (z : HardProgram). z.memory_words) is) b apart quiet checks calm k turn through
+    (ap (λ (z : HardProgram). z.initial) order) (ap (λ (z : HardProgram). z.memory_words) order)
+order_given p g (Err e) free busy is guarded_runs guarded twin c order b apart quiet checks calm k turn through = tt

@@ -5,7 +5,7 @@ use Rattle.hard_code.specs.declared.code.HardProgram.{HardProgram}
 use Rattle.hard_code.specs.declared.code.Signed.{Signed}
 use Rattle.hard_code.specs.Heads.{headed}
 use Rattle.hard_code.specs.Rules.{Apart, Guarded, NeverReports}
-use Rattle.hard_code.specs.Counts.{Calm, branches, room}
+use Rattle.hard_code.specs.Counts.{Calm, Turned, TurnedThrough, branches, room}
 use Rattle.hard_code.specs.WellFormed.{WellFormed}
 use Rattle.block_laws.specs.Runs.{SameRuns}
 use Rattle.sign_law.specs.Marks.{HasSigns}
@@ -68,6 +68,8 @@ module _ (p : HardProgram) (s : Signed) (g : IsInOrder p) (is : s.program ≡ wi
     initial = ap (λ (z : HardProgram). z.initial) is;
     memory = ap (λ (z : HardProgram). z.memory_words) is;
     smooth = λ h. subst Smooth (sym is) (stays p g.apart.well_formed g.apart.formed (narrow p few) h);
+    turned = subst Turned (sym is) (c.turned g.turned);
+    turned_through = subst TurnedThrough (sym is) (c.turned_through g.turned_through);
   }
 
 -- ---- answers

@@ -45,7 +45,14 @@ module _ (p o : HardProgram) (g : IsOrdered p o) (few : most_split_blocks p ≤ 
   made = record {
     comes = record {
       same_runs = both_same p o (smoothed o) g.comes.same_runs k.same_runs;
-      in_order = record { apart = k.apart; guarded = k.guarded g.comes.in_order.guarded; calm = k.calm g.comes.in_order.calm; never_reports = k.never_reports g.comes.in_order.never_reports };
+      in_order = record {
+        apart = k.apart;
+        guarded = k.guarded g.comes.in_order.guarded;
+        calm = k.calm g.comes.in_order.calm;
+        turned = c.turned g.comes.in_order.turned;
+        turned_through = c.turned_through g.comes.in_order.turned_through;
+        never_reports = k.never_reports g.comes.in_order.never_reports;
+      };
       few = split_few;
       room_within = split_room;
       initial = g.comes.initial;

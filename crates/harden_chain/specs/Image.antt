@@ -6,6 +6,8 @@ use Rattle.mips_isa.specs.Runs.{observed}
 use Rattle.mips_isa.specs.Image.{ImageFields, boot_state}
 use Rattle.mips_isa.specs.Faults.{Placed, Unreported}
 use Rattle.mips_isa.specs.Blocks.{IsAlias}
+use Rattle.mips_isa.specs.declared.instr.Instr.{Instr}
+use Rattle.mips_isa.specs.Turns.{IsTextOf, Turned, TurnedThrough}
 use Rattle.hard_code.specs.declared.code.HardProgram.{HardProgram}
 use Rattle.hard_code.specs.Run.{item_run}
 use Rattle.hard_code.specs.Counts.{branches, room}
@@ -22,7 +24,16 @@ most_blocks p = length p.blocks + sum_by (λ b. branches b.items) p.blocks
 abbrev pub most_split_blocks : HardProgram → ℕ
 most_split_blocks p = 2 * length p.blocks + 3 * sum_by (λ b. branches b.items) p.blocks
 
--- An image of the program: it does the same on every input, it is hardened, and it has at most so many words and starts of blocks.
+-- In each run of words of a text the units of the two streams take turns, the first stream first, as long as both have some left: where a
+-- run is of words of the streams and nops, and where neither checks nor words that touch no register but 0 part it.
+pub record IsInTurns (text : List ℕ) : Type 0 where
+  pub instrs : List Instr
+  pub is_text : IsTextOf text instrs
+  pub turned : Turned instrs
+  pub turned_through : TurnedThrough instrs
+
+-- An image of the program: it does the same on every input, it is hardened, its streams take turns, and it has at most so many words and
+-- starts of blocks.
 pub record IsImageWithin (p : HardProgram) (i : ImageFields) (most_words most_starts : ℕ) : Type 0 where
   pub same : (input : List ℕ) → AreWords input → SameObserved (observed (boot_state i input) None) (item_run p input)
   pub hardened : IsHardened i
@@ -35,6 +46,7 @@ pub record IsImageWithin (p : HardProgram) (i : ImageFields) (most_words most_st
   pub few_windows : length i.windows ≤ length i.text
   -- each word that neither begins a block nor is a break has a word before it
   pub no_dead_words : NoDeadWords i.text i.entry
+  pub in_turns : IsInTurns i.text
   -- its blocks start at some of so many places of the text
   pub place : ℕ → ℕ
   pub starts : HasStarts i most_starts place

@@ -3,7 +3,7 @@ use Rattle.std.specs.Prelude.{◌≡◌, ◌≤◌, ◌+◌, ◌*◌, ℕ, List,
 use Rattle.hard_code.specs.declared.code.HardProgram.{HardProgram}
 use Rattle.hard_code.specs.declared.code.Signed.{Signed}
 use Rattle.hard_code.specs.Rules.{Apart, Guarded, NeverReports}
-use Rattle.hard_code.specs.Counts.{Calm, branches, room}
+use Rattle.hard_code.specs.Counts.{Calm, Turned, TurnedThrough, branches, room}
 use Rattle.block_laws.specs.Runs.{SameRuns}
 use Rattle.mips_isa.specs.Image.{ImageFields}
 use Rattle.harden_law.specs.Hardened.{IsHardened}
@@ -14,13 +14,15 @@ use Rattle.hard_code.specs.Heads.{headed}
 use Rattle.layout_law.specs.Layout.{words, address}
 use Rattle.layout_law.specs.Laws.{Prepared}
 use Rattle.smooth_law.specs.Smooth.{Smooth}
-use Rattle.harden_chain.specs.Image.{most_blocks, most_split_blocks, IsImageOf, HasNoAliases}
+use Rattle.harden_chain.specs.Image.{most_blocks, most_split_blocks, IsImageOf, IsInTurns, HasNoAliases}
 
 -- A program with its checks and in its order, to which heads may be set.
 pub record IsInOrder (p : HardProgram) : Type 0 where
   pub apart : Apart p
   pub guarded : Guarded p
   pub calm : Calm p
+  pub turned : Turned p
+  pub turned_through : TurnedThrough p
   pub never_reports : NeverReports p
 
 -- A program in its order that comes of a program, with at most so many blocks and room for at most so many words.
@@ -53,6 +55,8 @@ pub record IsSignedOf (p : HardProgram) (s : Signed) : Type 0 where
   pub initial : s.program.initial ≡ p.initial
   pub memory : s.program.memory_words ≡ p.memory_words
   pub smooth : Smooth p → Smooth s.program
+  pub turned : Turned s.program
+  pub turned_through : TurnedThrough s.program
 
 -- Pairs of blocks as pairs of addresses.
 abbrev pub addressed : List ℕ → List (ℕ × ℕ) → List (ℕ × ℕ)
@@ -70,6 +74,7 @@ pub record IsImageOfSigned (s : Signed) (i : ImageFields) : Type 0 where
   pub no_dead_words : NoDeadWords i.text i.entry
   pub starts : (n : ℕ) → length s.program.blocks ≤ n → HasStarts i n (address (headed s))
   pub no_aliases : Smooth s.program → HasNoAliases i
+  pub in_turns : Turned s.program → TurnedThrough s.program → IsInTurns i.text
 
 -- An image of a program in its order.
 pub record IsImageOfOrdered (p : HardProgram) (i : ImageFields) : Type 0 where

@@ -4,7 +4,7 @@ ghost use Rattle.std.specs.Prelude.{◌≡◌, ◌≤◌, ◌<◌, ◌+◌, ◌*
 ghost use Rattle.mips_isa.specs.Text.{IsText};
 ghost use Rattle.hard_code.specs.Rules.{Guarded, Twin};
 ghost use Rattle.hard_code.specs.Counts.{room};
-ghost use Rattle.block_laws.specs.Counted.{HasNoFreeNop};
+ghost use Rattle.block_laws.specs.Counted.{HasNoFreeNop, AreBusy};
 ghost use Rattle.elf_image.specs.Layout.{fields_of};
 ghost use Rattle.window_lister.specs.WindowList.{AreWindows};
 ghost use Rattle.harden_lint.specs.Rules.{WellTyped};
@@ -25,6 +25,7 @@ use harden_lint::{LintError, lint};
 use image_fits::prepared_has_starts;
 use layout_counts::windows_are_few;
 use layout_law::{starts_are_blocks, text_length, words_are_typed};
+use layout_turns::{text_turned, text_turned_through};
 use reached_words::no_word_is_dead;
 use smooth_law::smooth_words_have_no_alias;
 use std::alloc::Global;
@@ -80,6 +81,8 @@ fn image_of(alloc: Global, signed: Signed) -> Result<Image, OutOfMemory>
     no_word_is_dead();
     prepared_has_starts();
     smooth_words_have_no_alias();
+    text_turned();
+    text_turned_through();
     let pairs = aliases(alloc, &signed)?;
     let laid = layout(alloc, &signed)?;
     let windows = listed(alloc, laid.text.as_slice())?;
@@ -118,6 +121,7 @@ fn image_of_ordered(alloc: Global, program: HardProgram) -> Result<Image, OutOfM
 pub fn harden(alloc: Global, program: HardProgram) -> Result<Image, OutOfMemory>
     requires twin { Twin program }
     requires no_free_nop { HasNoFreeNop program }
+    requires busy { AreBusy program }
     requires few { most_blocks program ≤ 65535 }
     requires room { room program ≤ 66060288 }
     ensures { IfOk result (λ image. IsImageOf program (fields_of image)) }
@@ -134,6 +138,7 @@ pub fn harden(alloc: Global, program: HardProgram) -> Result<Image, OutOfMemory>
 pub fn harden_split(alloc: Global, program: HardProgram) -> Result<Image, OutOfMemory>
     requires twin { Twin program }
     requires no_free_nop { HasNoFreeNop program }
+    requires busy { AreBusy program }
     requires few { most_split_blocks program ≤ 65535 }
     requires room { room program + 45 * length program.blocks ≤ 66060288 }
     ensures { IfOk result (λ image. IsSplitImageOf program (fields_of image)) }

@@ -3,7 +3,7 @@
 ghost use Rattle.std.specs.Prelude.{◌≡◌, ◌≤◌, IfOk};
 ghost use Rattle.hard_code.specs.Rules.{Twin};
 ghost use Rattle.hard_code.specs.Counts.{room};
-ghost use Rattle.block_laws.specs.Counted.{HasNoFreeNop};
+ghost use Rattle.block_laws.specs.Counted.{HasNoFreeNop, AreBusy};
 ghost use Rattle.harden_chain.specs.Image.{most_blocks, most_split_blocks};
 ghost use Rattle.harden_chain.specs.Steps.{IsInOrder, IsOrdered, IsOrderedSplit, IsSignedOf};
 
@@ -25,6 +25,7 @@ use widen_law::{widened_keeps_counts, widened_keeps_runs, widened_reaches};
 pub(crate) fn order(alloc: Global, program: HardProgram) -> Result<HardProgram, OutOfMemory>
     requires twin { Twin program }
     requires no_free_nop { HasNoFreeNop program }
+    requires busy { AreBusy program }
     ensures { IfOk result (IsOrdered program) }
 {
     let guarded = guard(alloc, program)?;
@@ -35,6 +36,7 @@ pub(crate) fn order(alloc: Global, program: HardProgram) -> Result<HardProgram, 
 pub(crate) fn order_split(alloc: Global, program: HardProgram) -> Result<HardProgram, OutOfMemory>
     requires twin { Twin program }
     requires no_free_nop { HasNoFreeNop program }
+    requires busy { AreBusy program }
     requires few { most_split_blocks program ≤ 65535 }
     ensures { IfOk result (IsOrderedSplit program) }
 {

@@ -1,2 +1,4 @@
 pub mod Parts
+pub mod Checks
+pub mod Clear
 pub mod Whole

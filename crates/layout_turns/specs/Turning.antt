@@ -5,10 +5,16 @@ use Rattle.mips_isa.specs.Turns as turns
 use Rattle.mips_isa.specs.Turns.{IsTextOf}
 use Rattle.hard_code.specs.declared.code.Signed.{Signed}
 use Rattle.hard_code.specs.Heads.{headed}
-use Rattle.hard_code.specs.Counts.{Turned}
+use Rattle.hard_code.specs.Counts.{Turned, TurnedThrough}
 use Rattle.layout_law.specs.Layout.{text}
 use Rattle.layout_law.specs.Level.{Laying}
 
 -- Of a text whose blocks begin with heads, by the instructions of its words.
 abbrev pub TextTurned : Type 0
-TextTurned = (s : Signed) → Laying s → length s.marks ≡ length s.program.blocks → Turned s.program → (ws : List Instr) → IsTextOf (text (headed s)) ws → turns.Turned ws
+TextTurned = (s : Signed) → Laying s → length s.marks ≡ length s.program.blocks → Turned s.program → (ws : List Instr) → IsTextOf (text (headed s)) ws →
+    turns.Turned ws
+
+-- The stronger form: neither checks nor words that touch no register but 0 part a run.
+abbrev pub TextTurnedThrough : Type 0
+TextTurnedThrough = (s : Signed) → Laying s → length s.marks ≡ length s.program.blocks → TurnedThrough s.program → (ws : List Instr) →
+    IsTextOf (text (headed s)) ws → turns.TurnedThrough ws

@@ -1,9 +1,14 @@
-//! The order of the two streams in the words of a signed program. The call does nothing; its contract is the law.
+//! The order of the two streams in the words of a signed program. The calls do nothing; their contracts are the laws.
 #![tactic(auto)]
 
-ghost use Rattle.layout_turns.specs.Turning.{TextTurned};
+ghost use Rattle.layout_turns.specs.Turning.{TextTurned, TextTurnedThrough};
 
 /// The streams take turns in the words where they do in the items: a head parts the words of two blocks.
 pub fn text_turned()
     ensures { TextTurned }
+{}
+
+/// The same where neither checks nor words that touch no register but 0 part a run.
+pub fn text_turned_through()
+    ensures { TextTurnedThrough }
 {}

@@ -20,7 +20,7 @@ use Rattle.hard_code.specs.Rules.{checks_of}
 use Rattle.hard_code.specs.Counts.{is_nop, is_conditional, is_block, is_branch, branches, is_reload, reloads, free_nops, free_nops_behind, checks_there, checks_wanted, check_words, is_of_check, block_room, nops_for, room}
 use Rattle.block_relays.specs.Relays.{Relays, Nothing, Next, Turned, Both, goals, turned, put_as, put_item}
 use Rattle.widen_law.proofs.Closes.{closing, holds_closing, Branches}
-use Rattle.widen_law.proofs.Turns.{turned_put}
+use Rattle.widen_law.proofs.Turns.{turned_put, turned_through_put}
 use Rattle.edge_split.specs.Split.{Plan, Keep, Returns, Calls, Falls, Turns, Forks, plan_of, relays_as, split_place, edge_relays, placed_block, relay_block, split_blocks, smoothed}
 use Rattle.split_law.specs.Law.{SmoothedKeepsCounts}
 use Rattle.split_law.proofs.Plans.{PlanFits, plan_fits}
@@ -286,5 +286,6 @@ keeps_counts p a = record {
   branches_same = branches_same p;
   reloads_same = reloads_same p;
   room_within = room_within p;
-  turned = turned_put (edge_relays p) p (smoothed p) (has_split p);
+  turned = turned_put (edge_relays p) p (smoothed p) (has_split p) a.formed;
+  turned_through = turned_through_put (edge_relays p) p (smoothed p) (has_split p) a.formed;
 }

@@ -5,7 +5,7 @@ use Rattle.hard_code.specs.Run.{items_of, is_call}
 use Rattle.hard_code.specs.WellFormed.{WellFormed}
 use Rattle.hard_code.specs.Forms.{Formed}
 use Rattle.hard_code.specs.Rules.{Apart}
-use Rattle.hard_code.specs.Counts.{Turned, branches, reloads, room}
+use Rattle.hard_code.specs.Counts.{Turned, TurnedThrough, branches, reloads, room}
 use Rattle.code_layout.specs.Widen.{widened}
 use Rattle.widen_law.specs.Law.{KeepsRuns}
 use Rattle.smooth_law.specs.Smooth.{Smooth}
@@ -27,6 +27,7 @@ pub record KeepsCounts (p q : HardProgram) : Type 0 where
   pub reloads_same : reloads q ≡ reloads p
   pub room_within : room q ≤ room p + 45 * length p.blocks
   pub turned : Turned p → Turned q
+  pub turned_through : TurnedThrough p → TurnedThrough q
 
 abbrev pub SmoothedKeepsCounts : Type 0
 SmoothedKeepsCounts = (p : HardProgram) → Apart p → KeepsCounts p (smoothed p)

@@ -16,7 +16,7 @@ use Rattle.code_layout.specs.Widen.{far_relays, widened}
 use Rattle.widen_law.specs.Law.{KeepsRuns, WidenedKeepsCounts, WidenedReaches, WidenedCanBeLaid}
 use Rattle.widen_law.proofs.Runs.{keeps_runs}
 use Rattle.widen_law.proofs.Counts.{blocks_few, branches_same, reloads_same, words_within}
-use Rattle.widen_law.proofs.Turns.{turned_put}
+use Rattle.widen_law.proofs.Turns.{turned_put, turned_through_put}
 use Rattle.widen_law.proofs.Far.{has_far}
 use Rattle.widen_law.proofs.Reach.{reaches}
 
@@ -26,7 +26,8 @@ keeps_counts p a = record {
   branches_same = branches_same p;
   reloads_same = reloads_same p;
   words_within = words_within p a.formed;
-  turned = turned_put (far_relays p) p (widened p) (has_far p);
+  turned = turned_put (far_relays p) p (widened p) (has_far p) a.formed;
+  turned_through = turned_through_put (far_relays p) p (widened p) (has_far p) a.formed;
 }
 
 pub widened_reaches : WidenedReaches

@@ -5,7 +5,7 @@ use Rattle.hard_code.specs.declared.code.Signed.{Signed}
 use Rattle.hard_code.specs.Heads.{headed}
 use Rattle.hard_code.specs.Run.{items_of}
 use Rattle.hard_code.specs.Rules.{Apart, Guarded, NeverReports}
-use Rattle.hard_code.specs.Counts.{Calm, Turned, branches, reloads, room}
+use Rattle.hard_code.specs.Counts.{Calm, Turned, TurnedThrough, branches, reloads, room}
 use Rattle.block_laws.specs.Runs.{SameRuns}
 use Rattle.layout_law.specs.Layout.{words, address}
 use Rattle.layout_law.specs.Level.{AllReach, MarksFit, Laying}
@@ -31,6 +31,7 @@ pub record KeepsCounts (p q : HardProgram) : Type 0 where
   pub reloads_same : reloads q ≡ reloads p
   pub words_within : words q.blocks + 7 * length q.blocks ≤ room p
   pub turned : Turned p → Turned q
+  pub turned_through : TurnedThrough p → TurnedThrough q
 
 abbrev pub WidenedKeepsCounts : Type 0
 WidenedKeepsCounts = (p : HardProgram) → Apart p → KeepsCounts p (widened p)
