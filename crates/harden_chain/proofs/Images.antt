@@ -23,7 +23,7 @@ use Rattle.layout_law.proofs.Texts.{length_text}
 use Rattle.window_lister.specs.WindowList.{AreWindows, Before, pair_at}
 use Rattle.image_fits.specs.Law.{PreparedHasStarts}
 use Rattle.reached_words.specs.Reached.{NoWordIsDead}
-use Rattle.layout_counts.specs.Counted.{WindowsOnce, WindowsAreFew}
+use Rattle.layout_counts.specs.Counted.{WindowsOnce, WindowsAreFew, ReloadsAreLoads}
 use Rattle.alias_lister.specs.Aliases as blocks
 use Rattle.harden_law.specs.Laws.{image_with, WordsAreHardened, WordsRunAs, WordsHaveWays}
 use Rattle.harden_law.specs.Hardened.{AreAliases}
@@ -73,8 +73,8 @@ once t ws w = record { near = w.sound; once = λ j k h l e. same (pair_at ws j) 
 pub image_made : (s : Signed) (i : ImageFields) (starts : List ℕ) (pairs windows aliases : List (ℕ × ℕ)) (rows : List TypingRow) (t : List ℕ) → Prepared s → Guarded s.program →
     i ≡ record { entry = 0x00400000; text = t; initial = s.program.initial; memory_words = s.program.memory_words; windows = windows; aliases = aliases } →
     t ≡ text (headed s) → starts ≡ addresses (headed s) → blocks.AreAliases s pairs → AreWindows t windows → AreRows t 4194304 rows → aliases ≡ addressed starts pairs →
-    WordsAreHardened → WordsRunAs → WordsHaveWays → StartsAreBlocks → TextLength → WindowsAreFew → NoWordIsDead → PreparedHasStarts → SmoothWordsHaveNoAlias → IsImageOfSigned s i
-image_made s i starts pairs windows aliases rows t p g e f st a w r al hardened runs ways at long few alive begins no_alias = subst (IsImageOfSigned s) (sym (e ∙ whole)) made
+    WordsAreHardened → WordsRunAs → WordsHaveWays → StartsAreBlocks → TextLength → WindowsAreFew → NoWordIsDead → PreparedHasStarts → SmoothWordsHaveNoAlias → ReloadsAreLoads → IsImageOfSigned s i
+image_made s i starts pairs windows aliases rows t p g e f st a w r al hardened runs ways at long few alive begins no_alias loads = subst (IsImageOfSigned s) (sym (e ∙ whole)) made
   where
     whole : ◌≡◌ {A = ImageFields} (record { entry = 0x00400000; text = t; initial = s.program.initial; memory_words = s.program.memory_words; windows = windows; aliases = aliases }) (image_with s windows aliases)
     whole = ap (λ (l : List ℕ). record { entry = 0x00400000; text = l; initial = s.program.initial; memory_words = s.program.memory_words; windows = windows; aliases = aliases }) f
@@ -95,6 +95,7 @@ image_made s i starts pairs windows aliases rows t p g e f st a w r al hardened 
       words = long s p.laying.marks ∙ ap (λ (n : ℕ). words s.program.blocks + 7 * n) p.signs.one_each;
       few_windows = few s windows p.laying g (once (text (headed s)) windows (subst (λ (l : List ℕ). AreWindows l windows) f w));
       no_dead_words = alive s p.laying;
+      loads_same = loads s p.laying;
       starts = λ n h. begins s windows aliases n p h;
       no_aliases = λ smooth. let none : (u w : ℕ) → text_blocks.IsAlias (text (headed s)) 0x00400000 u w → ⊥ = no_alias s p.laying p.signs smooth in
           record { none = none; none_listed = lists_none (text (headed s)) 0x00400000 aliases are_aliases none };
@@ -114,6 +115,7 @@ image_of_ordered p s i g m = record {
     words = subst (λ (n : ℕ). n ≤ room p) (sym m.words) g.words_within;
     few_windows = m.few_windows;
     no_dead_words = m.no_dead_words;
+    loads_same = m.loads_same ∙ g.reloads_same;
     place = address (headed s);
     starts = m.starts (most_blocks p) g.few;
   };
@@ -136,6 +138,7 @@ image_of_program p q i most most_room g m = record {
   words = within (length i.text) (room q) most_room m.words g.room_within;
   few_windows = m.few_windows;
   no_dead_words = m.no_dead_words;
+  loads_same = m.loads_same ∙ g.reloads_same;
   place = m.place;
   starts = record {
     start = λ w h. let b : (b : ℕ) × (b < most_blocks q) × (w ≡ m.place b) = m.starts.start w h in (b.0, lt_of_lt_of_le b.1 g.few, b.2);

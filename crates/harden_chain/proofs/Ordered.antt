@@ -27,6 +27,7 @@ ordered p g q free a guarded twin c i m b apart quiet checks calm k j n = record
     in_order = record { apart = apart; guarded = checks guarded; calm = calm; never_reports = quiet twin.never_reports };
     few = by (length q.blocks) (length p.blocks) (sum_by (λ b. branches b.items) q.blocks) (sum_by (λ b. branches b.items) p.blocks) blocks branches_same;
     room_within = subst (λ (z : ℕ). room q ≤ z) c.room_same (k.room_not_raised (λ x. c.free_nops_same x ∙ free x));
+    reloads_same = k.reloads_same ∙ c.reloads_same;
     initial = j ∙ i;
     memory = n ∙ m;
   };
