@@ -7,3 +7,4 @@ mod ItemAgain
 mod CallSites
 mod LimitAgain
 mod ProgramAgain
+mod LeafAgain

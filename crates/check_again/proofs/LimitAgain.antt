@@ -60,7 +60,7 @@ each_map f t (x ∷ xs) = ap (λ b. t (f x) && b) (each_map f t xs)
 count_params : (ps' ps : List Param) → param_types ps' ≡ param_types ps → length ps' ≡ length ps
 count_params ps' ps same = sym (length-map ps' (λ p. p.ty)) ∙ ap length same ∙ length-map ps (λ p. p.ty)
 
-abbrev weight_or_zero : Option Function → ℕ
+abbrev pub weight_or_zero : Option Function → ℕ
 weight_or_zero o = elim o [ None ↦ 0 | Some f ↦ function_weight f ]
 
 -- ---- of an item alone
@@ -210,7 +210,7 @@ module _ (F : Scope) (one : Distinct (onto F [])) where
     pub found : (n : ℕ) (d : Known) → lookup n F ≡ Some d → Found n (function_named n items) (function_named d.position items')
     found n d k = found_in (functions_again F items items' like) n d k
 
-    weight_same : (n : ℕ) (d : Known) → lookup n F ≡ Some d → weight_named items' d.position ≡ weight_named items n
+    pub weight_same : (n : ℕ) (d : Known) → lookup n F ≡ Some d → weight_named items' d.position ≡ weight_named items n
     weight_same n d k = at (function_named n items) (function_named d.position items') (found n d k)
       where
         at : (o o' : Option Function) → Found n o o' → weight_or_zero o' ≡ weight_or_zero o

@@ -41,14 +41,14 @@ not_true : (a : Bool) → not a ≡ true → a ≡ false
 not_true true is = absurd cc
 not_true false is = refl
 
-record Within (names : Names) (program : Program) : Type 0 where
+pub record Within (names : Names) (program : Program) : Type 0 where
   bodies : first_without_body names program.items ≡ None
-  main : is_main (function_named names.main program.items) ≡ true
+  pub main : is_main (function_named names.main program.items) ≡ true
   weights : first_too_heavy program.items ≡ None
   cost : nat_lt most_cost (program_cost program) ≡ false
   store : nat_lt most_store (store names program) ≡ false
 
-within : (names : Names) (program : Program) → Yields (within_limits names program) (λ u. Within names program)
+pub within : (names : Names) (program : Program) → Yields (within_limits names program) (λ u. Within names program)
 within names program =
     yields_after {m = refuse (first_without_body names program.items) NoBody} (λ a.
     yields_after {m = require (is_main (function_named names.main program.items)) NoMain 0} (λ b.
@@ -165,7 +165,7 @@ module _ (F : Scope) (one : Distinct (onto F [])) (items items' : List TopItem) 
 
 -- ---- whole programs
 
-first_apart : Apart (first_walking source_names)
+pub first_apart : Apart (first_walking source_names)
 first_apart = record {
   distinct = (((λ e. absurd (omega (arith, e))), tt), (tt, tt));
   below = (omega arith, (omega arith, tt));

@@ -1,6 +1,7 @@
 //! What holds of a program after its names have been resolved.
 
 ghost use Rattle.check_again.specs.Again.{CheckedAgain, NodesStay};
+ghost use Rattle.check_again.specs.Leaf.{StaysLight};
 
 /// A program without fault, whose names have been replaced by positions, has no fault, and the walk changes nothing in it.
 pub fn checked_again()
@@ -10,4 +11,9 @@ pub fn checked_again()
 /// A program whose names have been replaced by positions has as many nodes.
 pub fn nodes_stay()
     ensures { NodesStay }
+{}
+
+/// A `main` of a weight of at most 9 that calls no function with a body is one where names have been replaced by positions.
+pub fn stays_light()
+    ensures { StaysLight }
 {}

@@ -3,4 +3,4 @@
 
 mod laws;
 
-pub use laws::{checked_again, nodes_stay};
+pub use laws::{checked_again, nodes_stay, stays_light};

@@ -13,16 +13,19 @@ use Rattle.mid_code.specs.Size.{words, block_count, branch_count}
 use Rattle.frame_plan.specs.Frames.{cells}
 use Rattle.hard_code.specs.declared.code.HardProgram.{HardProgram}
 use Rattle.hard_code.specs.Run.{item_run}
-use Rattle.hard_code.specs.Counts.{branches, room}
+use Rattle.hard_code.specs.Counts.{branches, reloads, room}
 use Rattle.hard_code.specs.Rules.{Twin}
 use Rattle.duplicate_pass.specs.Doubled.{doubled_program}
 use Rattle.double_law.specs.Law.{RunsAsBlocks}
+use Rattle.double_reloads.specs.Law.{FewReloads}
+use Rattle.small_leaf.specs.Leaf.{LeafHasNoSlots}
 use Rattle.double_law.specs.Runs.{blocks_seen}
 use Rattle.double_forms.specs.Laws.{CountsFit}
 use Rattle.image_fits.specs.Law.{HardenedFits, AliasesAreFew}
 use Rattle.harden_chain.specs.Image.{most_blocks, most_split_blocks, IsImageWithin, IsImageOf, IsSplitImageOf}
 use Rattle.compile_blocks.specs.Blocks.{IsReady, IsImageOfBlocks, IsImageOfBlocksWithin, IsSplitImageOfBlocks}
-use Rattle.compile_blocks.specs.Steps.{IsDoubled}
+use Rattle.compile_blocks.specs.Steps.{AreAllAssigned, IsDoubled}
+use Rattle.compile_blocks.proofs.Leaf.{leaf_reloads}
 use Rattle.compile_blocks.proofs.Starts.{listed}
 
 -- ---- the premises of hardening
@@ -108,6 +111,7 @@ image_within mid p i most_words most_starts m n r d w g fits few room small star
   few_starts = listed i most_starts n g.place g.starts starts;
   no_dead_words = g.no_dead_words;
   in_turns = g.in_turns;
+  few_loads = λ leaf. subst (λ (n : ℕ). n ≤ 2) (sym g.loads_same) (d.few_reloads leaf);
 }
 
 pub image_of_blocks : (mid : Mid) (p : HardProgram) (i : ImageFields) → IsReady mid → IsDoubled mid p → AreWords i.text → IsImageOf p i → HardenedFits → AliasesAreFew → IsImageOfBlocks mid i
@@ -130,6 +134,13 @@ split_image_of_blocks mid p i r d w g fits = record {
     none_few n e = omega (arith, e)
 
 -- what the doubling gives
-pub doubled_of : {E : Type 0} (mid : Mid) (places : List Places) (r : Result HardProgram E) → IfOk r (λ p. p ≡ doubled_program mid places) → IfOk r (RunsAsBlocks mid) → IfOk r Twin → IfOk r (CountsFit mid) → IfOk r (IsDoubled mid)
-doubled_of mid places (Ok p) is runs twin counts = record { runs = runs; twin = twin; counts = counts; memory = ap (λ (q : HardProgram). q.memory_words) is }
-doubled_of mid places (Err e) is runs twin counts = tt
+pub doubled_of : {E : Type 0} (mid : Mid) (places : List Places) (r : Result HardProgram E) → IsReady mid → AreAllAssigned mid places → FewReloads → LeafHasNoSlots →
+    IfOk r (λ p. p ≡ doubled_program mid places) → IfOk r (RunsAsBlocks mid) → IfOk r Twin → IfOk r (CountsFit mid) → IfOk r (IsDoubled mid)
+doubled_of mid places (Ok p) ready assigned few law is runs twin counts = record {
+  runs = runs;
+  twin = twin;
+  counts = counts;
+  memory = ap (λ (q : HardProgram). q.memory_words) is;
+  few_reloads = λ leaf. subst (λ (q : HardProgram). reloads q ≤ 2) (sym is) (leaf_reloads mid places ready assigned few law leaf);
+}
+doubled_of mid places (Err e) ready assigned few law is runs twin counts = tt

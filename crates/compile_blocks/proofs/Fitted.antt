@@ -5,10 +5,11 @@ use Rattle.std.proofs.lemmas.Option.{slice_get-get_or, slice_get_within}
 use Rattle.mid_code.specs.declared.code.Mid.{Mid}
 use Rattle.mid_code.specs.declared.code.MidFunction.{MidFunction}
 use Rattle.mid_code.specs.declared.places.Places.{Places}
-use Rattle.mid_code.specs.Liveness.{PlacesFit}
 use Rattle.mid_code.specs.Valid.{ValidFunction, Valid}
+use Rattle.register_halves.specs.Assigned.{AreAssigned}
 use Rattle.double_law.specs.Law.{AllFit}
 use Rattle.compile_blocks.specs.Blocks.{FitTo}
+use Rattle.compile_blocks.specs.Steps.{AreAllAssigned}
 
 some_inj : {A : Type 0} (x y : A) → ◌≡◌ {A = Option A} (Some x) (Some y) → x ≡ y
 some_inj x y e = cc
@@ -25,7 +26,7 @@ last (y ∷ xs) x = last xs x
 pub function_valid : (mid : Mid) (fs : List MidFunction) (k : ℕ) (f : MidFunction) → Valid mid → fs ≡ mid.functions → k < length fs → f ≡ get_or fs k f → ValidFunction f
 function_valid mid fs k f v e h i = subst ValidFunction (sym i) (subst (λ (l : List MidFunction). ValidFunction (get_or l k f)) (sym e) (v.functions_valid k f (subst (λ (l : List MidFunction). k < length l) e h)))
 
-pub fit_more : (mid : Mid) (fs : List MidFunction) (k : ℕ) (f : MidFunction) (out out' : List Places) (at : Places) → fs ≡ mid.functions → k < length fs → f ≡ get_or fs k f → FitTo mid k out → length out ≡ k → PlacesFit f at → out' ≡ out ++ at ∷ [] → FitTo mid (k + 1) out'
+pub fit_more : (mid : Mid) (fs : List MidFunction) (k : ℕ) (f : MidFunction) (out out' : List Places) (at : Places) → fs ≡ mid.functions → k < length fs → f ≡ get_or fs k f → FitTo mid k out → length out ≡ k → AreAssigned f 8 at → out' ≡ out ++ at ∷ [] → FitTo mid (k + 1) out'
 fit_more mid fs k f out out' at e h i fit c p o n g l s = by (split n k l)
   where
     split : (n k : ℕ) → n < k + 1 → (n < k) ⊎ (n ≡ k)
@@ -50,14 +51,20 @@ fit_more mid fs k f out out' at e h i fit c p o n g l s = by (split n k l)
     here : slice_get mid.functions k ≡ Some f
     here = ap (λ (l : List MidFunction). slice_get l k) (sym e) ∙ (slice_get-get_or fs k f h ∙ ap (λ (x : MidFunction). Some x) (sym i))
 
-    by : (n < k) ⊎ (n ≡ k) → (at : Places) × (slice_get out' n ≡ Some at) × PlacesFit g at
-    by (inl q) = let r : (at : Places) × (slice_get out n ≡ Some at) × PlacesFit g at = fit n g q s in
+    by : (n < k) ⊎ (n ≡ k) → (at : Places) × (slice_get out' n ≡ Some at) × AreAssigned g 8 at
+    by (inl q) = let r : (at : Places) × (slice_get out n ≡ Some at) × AreAssigned g 8 at = fit n g q s in
         (r.0, ap (λ (l : List Places). slice_get l n) o ∙ front out (at ∷ []) n r.0 r.1, r.2)
     by (inr q) = (
       at,
       ap (λ (l : List Places). slice_get l n) o ∙ (ap (slice_get (out ++ at ∷ [])) (q ∙ sym c) ∙ last out at),
-      subst (λ (x : MidFunction). PlacesFit x at) (some_inj f g (sym here ∙ (ap (slice_get mid.functions) (sym q) ∙ s))) p,
+      subst (λ (x : MidFunction). AreAssigned x 8 at) (some_inj f g (sym here ∙ (ap (slice_get mid.functions) (sym q) ∙ s))) p,
     )
 
-pub fit_all : (mid : Mid) (fs : List MidFunction) (k : ℕ) (out : List Places) → fs ≡ mid.functions → k ≡ length fs → FitTo mid k out → AllFit mid out
-fit_all mid fs k out e c fit n f s = fit n f (subst (λ (z : ℕ). n < z) (sym (c ∙ ap length e)) (slice_get_within mid.functions n f s)) s
+pub fit_all : (mid : Mid) (fs : List MidFunction) (k : ℕ) (out : List Places) → fs ≡ mid.functions → k ≡ length fs → length out ≡ k → FitTo mid k out → AreAllAssigned mid out
+fit_all mid fs k out e c l fit = record {
+  one_each = l ∙ (c ∙ ap length e);
+  each = λ n f s. fit n f (subst (λ (z : ℕ). n < z) (sym (c ∙ ap length e)) (slice_get_within mid.functions n f s)) s;
+}
+
+pub all_fit : (mid : Mid) (places : List Places) → AreAllAssigned mid places → AllFit mid places
+all_fit mid places a n f s = let r : (at : Places) × (slice_get places n ≡ Some at) × AreAssigned f 8 at = a.each n f s in (r.0, r.1, r.2.fit)

@@ -1,3 +1,0 @@
-mod Fitted
-mod Starts
-mod Composed

@@ -1,5 +1,5 @@
 -- What becomes of a program in blocks: a hardened image that does the same.
-use Rattle.std.specs.Prelude.{◌≡◌, ◌≤◌, ◌<◌, ℕ, ◌+◌, ◌*◌, None, List, length, Contains, slice_get, Some}
+use Rattle.std.specs.Prelude.{◌≡◌, ◌≤◌, ◌<◌, ℕ, ◌+◌, ◌*◌, None, List, length, Contains, count_by, slice_get, Some}
 use Rattle.hard_words.specs.Observed.{SameObserved}
 use Rattle.hard_words.specs.Words.{AreWords}
 use Rattle.mips_isa.specs.Runs.{observed}
@@ -9,14 +9,16 @@ use Rattle.mips_isa.specs.Blocks.{IsStart}
 use Rattle.mid_code.specs.declared.code.Mid.{Mid}
 use Rattle.mid_code.specs.declared.code.MidFunction.{MidFunction}
 use Rattle.mid_code.specs.declared.places.Places.{Places}
-use Rattle.mid_code.specs.Liveness.{PlacesFit}
 use Rattle.mid_code.specs.Valid.{Valid}
 use Rattle.mid_code.specs.Bounds.{Shallow, Proper}
 use Rattle.mid_code.specs.Size.{words, block_count, branch_count}
+use Rattle.register_halves.specs.Assigned.{AreAssigned}
+use Rattle.small_leaf.specs.Leaf.{IsOneLeaf}
 use Rattle.frame_plan.specs.Frames.{cells}
 use Rattle.double_law.specs.Law.{HasWords}
 use Rattle.double_law.specs.Runs.{blocks_seen}
 use Rattle.reached_words.specs.Reached.{NoDeadWords}
+use Rattle.layout_counts.specs.Counted.{is_load}
 use Rattle.harden_law.specs.Hardened.{IsHardened}
 use Rattle.harden_chain.specs.Image.{IsInTurns, HasNoAliases}
 use Rattle.elf_image.specs.Bounds.{Fits}
@@ -54,6 +56,8 @@ pub record IsImageOfBlocksWithin (mid : Mid) (image : ImageFields) (most_words m
   pub no_dead_words : NoDeadWords image.text image.entry
   -- and the streams take turns
   pub in_turns : IsInTurns image.text
+  -- and where the program is one function of few variables that calls nothing, at most two words load through the stack pointers
+  pub few_loads : IsOneLeaf mid → count_by is_load image.text ≤ 2
 
 -- It has at most the words that the program comes to, and a block starts at most at so many addresses as the program has blocks, with one
 -- more for each branch and two for the whole.
@@ -68,4 +72,5 @@ pub record IsSplitImageOfBlocks (mid : Mid) (image : ImageFields) : Type 0 where
 
 -- The places of the first functions of a program, on the way there. It serves a private contract alone.
 abbrev pub FitTo : Mid → ℕ → List Places → Type 0
-FitTo mid k places = (n : ℕ) (f : MidFunction) → n < k → slice_get mid.functions n ≡ Some f → (at : Places) × (slice_get places n ≡ Some at) × PlacesFit f at
+FitTo mid k places = (n : ℕ) (f : MidFunction) → n < k → slice_get mid.functions n ≡ Some f →
+    (at : Places) × (slice_get places n ≡ Some at) × AreAssigned f 8 at

@@ -7,6 +7,7 @@ ghost use Rattle.compile_blocks.specs.Blocks.{IsReady, IsImageOfBlocks, IsSplitI
 ghost use Rattle.compile_blocks.specs.Steps.{IsDoubled};
 
 use crate::places::all_places;
+use double_reloads::doubled_reloads;
 use duplicate_pass::duplicate;
 use elf_image::Image;
 use frame_plan::plan;
@@ -15,6 +16,7 @@ use hard_words::OutOfMemory;
 use harden_chain::{harden, harden_split};
 use image_fits::{aliases_are_few, hardened_fits};
 use mid_code::Mid;
+use small_leaf::leaf_has_no_slots;
 use std::alloc::Global;
 
 /// Numbers of 32 bits are words.
@@ -27,6 +29,8 @@ fn double(alloc: Global, mid: &Mid) -> Result<HardProgram, OutOfMemory>
     requires { IsReady mid.now }
     ensures { IfOk result (IsDoubled mid.now) }
 {
+    doubled_reloads();
+    leaf_has_no_slots();
     let places = all_places(alloc, mid)?;
     let frames = plan(alloc, mid)?;
     duplicate(alloc, mid, places.as_slice(), &frames)

@@ -2,17 +2,17 @@
 
 ghost use Rattle.std.specs.Prelude.{◌≡◌, IfOk};
 ghost use Rattle.mid_code.specs.Valid.{Valid};
-ghost use Rattle.double_law.specs.Law.{AllFit};
+ghost use Rattle.compile_blocks.specs.Steps.{AreAllAssigned};
 
 use hard_words::OutOfMemory;
 use mid_code::{Mid, Places};
 use register_halves::assign;
 use std::alloc::Global;
 
-/// Places that fit, for the variables of each function.
+/// Places for the variables of each function, in the eight pairs of registers and in slots.
 pub(crate) fn all_places(alloc: Global, mid: &Mid) -> Result<Vec<Places>, OutOfMemory>
     requires { Valid mid.now }
-    ensures { IfOk result (λ places. AllFit mid.now places.items) }
+    ensures { IfOk result (λ places. AreAllAssigned mid.now places.items) }
 {
     let mut out = Vec::new(alloc);
     for function in mid.functions.as_slice() {

@@ -18,8 +18,10 @@ use Rattle.c_parser.proofs.Programs.{one_tree}
 use Rattle.check_rules.specs.declared.error.CheckError.{CheckError}
 use Rattle.check_rules.specs.declared.error.CheckError.TheVariants as checker
 use Rattle.check_rules.specs.Fault.{Fault}
-use Rattle.check_rules.specs.Limits.{Resolved, first_fault, fault_in}
+use Rattle.check_rules.specs.Limits.{Resolved, first_fault, fault_in, resolved_names}
 use Rattle.check_again.specs.Again.{NodesStay}
+use Rattle.check_again.specs.Leaf.{IsLightLeaf, StaysLight}
+use Rattle.small_leaf.specs.Leaf.{IsOneLeaf}
 use Rattle.checked_labels.specs.Laws.{StaysLabelled}
 use Rattle.parsed_labels.specs.Laws.{ParsedIsLabelled}
 use Rattle.lowering_law.specs.Labels.{bare_clauses}
@@ -67,9 +69,9 @@ few_words source c mid stays is of = by (words mid) (program_nodes c.program) (p
     by w n m l h e k = omega (arith, h, e, k)
 
 -- what the compiler promises of an image of what that is lowered to
-compiles_within : (source : List ℕ) (c : Resolved) (fields : ImageFields) (mid : Mid) (most_words most_starts m n : ℕ) → LoweredIsHardened → NodesStay → IsCheckedSource source c → IsLowered c mid →
-    IsImageOfBlocksWithin mid fields most_words most_starts → (words mid ≤ 60 * length source → most_words ≤ m) → most_starts ≤ n → CompilesWithin source fields m n
-compiles_within source c fields mid most_words most_starts m n hardens stays is of image small few =
+compiles_within : (source : List ℕ) (c : Resolved) (fields : ImageFields) (mid : Mid) (most_words most_starts m n : ℕ) → LoweredIsHardened → NodesStay → StaysLight → IsCheckedSource source c → IsLowered c mid →
+    (IsLightLeaf (resolved_names c) c.program → IsOneLeaf mid) → IsImageOfBlocksWithin mid fields most_words most_starts → (words mid ≤ 60 * length source → most_words ≤ m) → most_starts ≤ n → CompilesWithin source fields m n
+compiles_within source c fields mid most_words most_starts m n hardens stays light is of leaf image small few =
     let law : Hardened is.program fields × (fields.memory_words ≤ 65536) = hardens is.program c mid fields is.shaped is.is_checked of (record { same = image.same; hardened = image.hardened; placed = image.placed; memory = image.memory }) in
     record {
       program = is.program;
@@ -82,15 +84,16 @@ compiles_within source c fields mid most_words most_starts m n hardens stays is 
       few_starts = at_most fields.text fields.entry most_starts n few image.few_starts;
       no_dead_words = image.no_dead_words;
       in_turns = image.in_turns;
+      few_loads = λ h. image.few_loads (leaf (light is.program c is.shaped is.is_checked h));
     }
 
-pub compiles : (source : List ℕ) (c : Resolved) (fields : ImageFields) → LoweredIsHardened → NodesStay → IsCheckedSource source c → IsImageOfChecked c fields → Compiles source fields
-compiles source c fields hardens stays is of =
-    compiles_within source c fields of.mid (words of.mid) (block_count of.mid + branch_count of.mid + 2) (60 * length source) 16000 hardens stays is of.lowered of.image (λ h. h) of.lowered.few_blocks
+pub compiles : (source : List ℕ) (c : Resolved) (fields : ImageFields) → LoweredIsHardened → NodesStay → StaysLight → IsCheckedSource source c → IsImageOfChecked c fields → Compiles source fields
+compiles source c fields hardens stays light is of =
+    compiles_within source c fields of.mid (words of.mid) (block_count of.mid + branch_count of.mid + 2) (60 * length source) 16000 hardens stays light is of.lowered of.leaf of.image (λ h. h) of.lowered.few_blocks
 
-pub compiles_split : (source : List ℕ) (c : Resolved) (fields : ImageFields) → LoweredIsHardened → NodesStay → IsCheckedSource source c → IsSplitImageOfChecked c fields → CompilesSplit source fields
-compiles_split source c fields hardens stays is of = record {
-  compiles = compiles_within source c fields of.mid (words of.mid + 45 * (block_count of.mid + 2)) (3 * (block_count of.mid + branch_count of.mid + 2)) (60 * length source + 720000) 48000 hardens stays is of.lowered of.image.within
+pub compiles_split : (source : List ℕ) (c : Resolved) (fields : ImageFields) → LoweredIsHardened → NodesStay → StaysLight → IsCheckedSource source c → IsSplitImageOfChecked c fields → CompilesSplit source fields
+compiles_split source c fields hardens stays light is of = record {
+  compiles = compiles_within source c fields of.mid (words of.mid + 45 * (block_count of.mid + 2)) (3 * (block_count of.mid + branch_count of.mid + 2)) (60 * length source + 720000) 48000 hardens stays light is of.lowered of.leaf of.image.within
       (λ h. more (words of.mid) (60 * length source) (block_count of.mid) (branch_count of.mid) h of.lowered.few_blocks) (times (block_count of.mid + branch_count of.mid + 2) of.lowered.few_blocks);
   no_aliases = of.image.no_aliases.none_listed;
   no_alias = of.image.no_aliases.none;

@@ -1,5 +1,5 @@
 -- Which sources are accepted, why the others are refused, and what is promised of the image of a source.
-use Rattle.std.specs.Prelude.{ℕ, ◌≡◌, ◌<◌, ◌≤◌, ◌+◌, ◌*◌, List, [], length, Some, None, Ok, Err, codes}
+use Rattle.std.specs.Prelude.{ℕ, ◌≡◌, ◌<◌, ◌≤◌, ◌+◌, ◌*◌, List, [], length, count_by, Some, None, Ok, Err, codes}
 use Rattle.c_lexer.specs.declared.token.Token.{Token}
 use Rattle.c_lexer.specs.Tokens.{Tokens, first_names, number_of}
 use Rattle.c_tree.specs.declared.tree.Program.{Program}
@@ -14,6 +14,7 @@ use Rattle.c_parser.specs.Order.{IsPlace}
 use Rattle.check_rules.specs.declared.error.CheckError.{CheckError}
 use Rattle.check_rules.specs.declared.error.CheckError.TheVariants as checker
 use Rattle.check_rules.specs.Limits.{Resolved, checked, first_fault}
+use Rattle.check_again.specs.Leaf.{IsLightLeaf}
 use Rattle.mips_isa.specs.Image.{ImageFields}
 use Rattle.mips_isa.specs.Blocks.{IsAlias}
 use Rattle.elf_image.specs.Bounds.{Fits}
@@ -21,6 +22,7 @@ use Rattle.elf_image.specs.Held.{IsImage}
 use Rattle.compile_law.specs.Hardened.{Hardened}
 use Rattle.reached_words.specs.Reached.{NoDeadWords}
 use Rattle.harden_chain.specs.Image.{IsInTurns}
+use Rattle.layout_counts.specs.Counted.{is_load}
 use Rattle.compile_blocks.specs.Blocks.{HasFewStarts}
 use Rattle.compile_chain.specs.declared.refusal.Refusal.{Refusal}
 use Rattle.compile_chain.specs.declared.refusal.Refusal.TheVariants.{TooLong, Lex, Parse, Check, OutOfMemory}
@@ -83,7 +85,8 @@ IsNotCompiled source OutOfMemory = Unit {0}
 -- What is promised of an image of a source: it is the hardened image of the source's program, it has at most so many words and at most
 -- 65,536 words of memory, and a file can hold it; it has at most as many windows as words, at most so many addresses at which a block
 -- starts, and no dead word: each that neither begins a block nor is a break has a word before it; and the words of its two streams take
--- turns.
+-- turns. Where `main` has a weight of at most 9 and calls no function with a body, at most two of its words load through the stack
+-- pointers, $29 and $30.
 pub record CompilesWithin (source : List ℕ) (fields : ImageFields) (most_words most_starts : ℕ) : Type 0 where
   pub program : Program
   pub is_source : IsSource source program
@@ -95,6 +98,7 @@ pub record CompilesWithin (source : List ℕ) (fields : ImageFields) (most_words
   pub few_starts : HasFewStarts fields.text fields.entry most_starts
   pub no_dead_words : NoDeadWords fields.text fields.entry
   pub in_turns : IsInTurns fields.text
+  pub few_loads : IsLightLeaf source_names program → count_by is_load fields.text ≤ 2
 
 -- What is promised of the image that a source is compiled to: it has at most 60 words for each byte of the source, and at most 16,000
 -- addresses at which a block starts.

@@ -12,8 +12,10 @@ use Rattle.c_tree.specs.Shaped.{Shaped}
 use Rattle.c_tree.specs.Sizes.{program_depth, program_nodes}
 use Rattle.check_rules.specs.declared.error.CheckError.{CheckError}
 use Rattle.check_rules.specs.declared.error.CheckError.TheVariants as checker
-use Rattle.check_rules.specs.Limits.{Resolved, checked}
+use Rattle.check_rules.specs.Limits.{Resolved, checked, resolved_names}
+use Rattle.check_again.specs.Leaf.{IsLightLeaf}
 use Rattle.mid_code.specs.declared.code.Mid.{Mid}
+use Rattle.small_leaf.specs.Leaf.{IsOneLeaf}
 use Rattle.mips_isa.specs.Image.{ImageFields}
 use Rattle.compile_law.specs.Lowered.{IsLowered}
 use Rattle.compile_blocks.specs.Blocks.{IsImageOfBlocks, IsSplitImageOfBlocks}
@@ -37,12 +39,14 @@ checker_refusal e = Check e
 pub record IsImageOfChecked (c : Resolved) (fields : ImageFields) : Type 0 where
   pub mid : Mid
   pub lowered : IsLowered c mid
+  pub leaf : IsLightLeaf (resolved_names c) c.program → IsOneLeaf mid
   pub image : IsImageOfBlocks mid fields
 
 -- that image with its critical edges split
 pub record IsSplitImageOfChecked (c : Resolved) (fields : ImageFields) : Type 0 where
   pub mid : Mid
   pub lowered : IsLowered c mid
+  pub leaf : IsLightLeaf (resolved_names c) c.program → IsOneLeaf mid
   pub image : IsSplitImageOfBlocks mid fields
 
 -- the checked program of the program that the tokens spell

@@ -18,7 +18,7 @@ use c_check::check;
 use c_lexer::{Token, tokens};
 use c_parser::parse;
 use c_tree::Program;
-use check_again::nodes_stay;
+use check_again::{nodes_stay, stays_light};
 use check_rules::Checked;
 use checked_labels::stays_labelled;
 use compile_blocks::compile_blocks;
@@ -54,6 +54,7 @@ pub fn compile(alloc: Global, source: &[u8]) -> Result<Image, Refusal>
     stays_labelled();
     lowered_is_hardened();
     nodes_stay();
+    stays_light();
     match checked_source(alloc, source) {
         Err(refusal) => Err(refusal),
         Ok(checked) => match compile_checked(alloc, &checked) {

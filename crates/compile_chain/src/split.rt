@@ -10,7 +10,7 @@ ghost use Rattle.compile_chain.specs.Parts.{IsSplitImageOfChecked};
 
 use crate::compiler::checked_source;
 use crate::refusal::Refusal;
-use check_again::nodes_stay;
+use check_again::{nodes_stay, stays_light};
 use check_rules::Checked;
 use checked_labels::stays_labelled;
 use compile_blocks::compile_blocks_split;
@@ -41,6 +41,7 @@ pub fn compile_split(alloc: Global, source: &[u8]) -> Result<Image, Refusal>
     stays_labelled();
     lowered_is_hardened();
     nodes_stay();
+    stays_light();
     match checked_source(alloc, source) {
         Err(refusal) => Err(refusal),
         Ok(checked) => match split_checked(alloc, &checked) {

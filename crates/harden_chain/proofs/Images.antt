@@ -27,7 +27,7 @@ use Rattle.mips_isa.specs.Turns.{IsTextOf}
 use Rattle.layout_law.proofs.Laying.{can_be_laid}
 use Rattle.layout_counts.proofs.Decoded.{instrs, text_decoded}
 use Rattle.layout_turns.specs.Turning.{TextTurned, TextTurnedThrough}
-use Rattle.layout_counts.specs.Counted.{WindowsOnce, WindowsAreFew}
+use Rattle.layout_counts.specs.Counted.{WindowsOnce, WindowsAreFew, ReloadsAreLoads}
 use Rattle.alias_lister.specs.Aliases as blocks
 use Rattle.harden_law.specs.Laws.{image_with, WordsAreHardened, WordsRunAs, WordsHaveWays}
 use Rattle.harden_law.specs.Hardened.{AreAliases}
@@ -77,8 +77,8 @@ once t ws w = record { near = w.sound; once = λ j k h l e. same (pair_at ws j) 
 pub image_made : (s : Signed) (i : ImageFields) (starts : List ℕ) (pairs windows aliases : List (ℕ × ℕ)) (rows : List TypingRow) (t : List ℕ) → Prepared s → Guarded s.program →
     i ≡ record { entry = 0x00400000; text = t; initial = s.program.initial; memory_words = s.program.memory_words; windows = windows; aliases = aliases } →
     t ≡ text (headed s) → starts ≡ addresses (headed s) → blocks.AreAliases s pairs → AreWindows t windows → AreRows t 4194304 rows → aliases ≡ addressed starts pairs →
-    WordsAreHardened → WordsRunAs → WordsHaveWays → StartsAreBlocks → TextLength → WindowsAreFew → NoWordIsDead → PreparedHasStarts → SmoothWordsHaveNoAlias → TextTurned → TextTurnedThrough → IsImageOfSigned s i
-image_made s i starts pairs windows aliases rows t p g e f st a w r al hardened runs ways at long few alive begins no_alias turn through = subst (IsImageOfSigned s) (sym (e ∙ whole)) made
+    WordsAreHardened → WordsRunAs → WordsHaveWays → StartsAreBlocks → TextLength → WindowsAreFew → NoWordIsDead → PreparedHasStarts → SmoothWordsHaveNoAlias → TextTurned → TextTurnedThrough → ReloadsAreLoads → IsImageOfSigned s i
+image_made s i starts pairs windows aliases rows t p g e f st a w r al hardened runs ways at long few alive begins no_alias turn through loads = subst (IsImageOfSigned s) (sym (e ∙ whole)) made
   where
     whole : ◌≡◌ {A = ImageFields} (record { entry = 0x00400000; text = t; initial = s.program.initial; memory_words = s.program.memory_words; windows = windows; aliases = aliases }) (image_with s windows aliases)
     whole = ap (λ (l : List ℕ). record { entry = 0x00400000; text = l; initial = s.program.initial; memory_words = s.program.memory_words; windows = windows; aliases = aliases }) f
@@ -102,6 +102,7 @@ image_made s i starts pairs windows aliases rows t p g e f st a w r al hardened 
       words = long s p.laying.marks ∙ ap (λ (n : ℕ). words s.program.blocks + 7 * n) p.signs.one_each;
       few_windows = few s windows p.laying g (once (text (headed s)) windows (subst (λ (l : List ℕ). AreWindows l windows) f w));
       no_dead_words = alive s p.laying;
+      loads_same = loads s p.laying;
       starts = λ n h. begins s windows aliases n p h;
       no_aliases = λ smooth. let none : (u w : ℕ) → text_blocks.IsAlias (text (headed s)) 0x00400000 u w → ⊥ = no_alias s p.laying p.signs smooth in
           record { none = none; none_listed = lists_none (text (headed s)) 0x00400000 aliases are_aliases none };
@@ -128,6 +129,7 @@ image_of_ordered p s i g m = record {
     few_windows = m.few_windows;
     no_dead_words = m.no_dead_words;
     in_turns = m.in_turns g.turned g.turned_through;
+    loads_same = m.loads_same ∙ g.reloads_same;
     place = address (headed s);
     starts = m.starts (most_blocks p) g.few;
   };
@@ -151,6 +153,7 @@ image_of_program p q i most most_room g m = record {
   few_windows = m.few_windows;
   no_dead_words = m.no_dead_words;
   in_turns = m.in_turns;
+  loads_same = m.loads_same ∙ g.reloads_same;
   place = m.place;
   starts = record {
     start = λ w h. let b : (b : ℕ) × (b < most_blocks q) × (w ≡ m.place b) = m.starts.start w h in (b.0, lt_of_lt_of_le b.1 g.few, b.2);

@@ -44,6 +44,7 @@ ordered p g q free busy a guarded twin c i m b apart quiet checks calm k turn th
     };
     few = by (length q.blocks) (length p.blocks) (sum_by (λ b. branches b.items) q.blocks) (sum_by (λ b. branches b.items) p.blocks) blocks branches_same;
     room_within = subst (λ (z : ℕ). room q ≤ z) c.room_same (k.room_not_raised (still_free p g c free));
+    reloads_same = k.reloads_same ∙ c.reloads_same;
     initial = j ∙ i;
     memory = n ∙ m;
   };

@@ -5,7 +5,7 @@ use Rattle.hard_code.specs.declared.code.HardProgram.{HardProgram}
 use Rattle.hard_code.specs.declared.code.Signed.{Signed}
 use Rattle.hard_code.specs.Heads.{headed}
 use Rattle.hard_code.specs.Rules.{Apart, Guarded, NeverReports}
-use Rattle.hard_code.specs.Counts.{Calm, Turned, TurnedThrough, branches, room}
+use Rattle.hard_code.specs.Counts.{Calm, Turned, TurnedThrough, branches, reloads, room}
 use Rattle.hard_code.specs.WellFormed.{WellFormed}
 use Rattle.block_laws.specs.Runs.{SameRuns}
 use Rattle.sign_law.specs.Marks.{HasSigns}
@@ -65,6 +65,7 @@ module _ (p : HardProgram) (s : Signed) (g : IsInOrder p) (is : s.program ≡ wi
     same_runs = subst (SameRuns p) (sym is) k.same_runs;
     few = small;
     words_within = words_here;
+    reloads_same = subst (λ (z : HardProgram). reloads z ≡ reloads p) (sym is) c.reloads_same;
     initial = ap (λ (z : HardProgram). z.initial) is;
     memory = ap (λ (z : HardProgram). z.memory_words) is;
     smooth = λ h. subst Smooth (sym is) (stays p g.apart.well_formed g.apart.formed (narrow p few) h);

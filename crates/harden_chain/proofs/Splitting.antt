@@ -1,5 +1,5 @@
 -- The program in its order with its critical edges split.
-use Rattle.std.proofs.Common.{◌≡◌, ◌≤◌, ℕ, ◌+◌, ◌*◌, arith, sym, subst, length}
+use Rattle.std.proofs.Common.{◌≡◌, ◌≤◌, ℕ, ◌+◌, ◌*◌, arith, sym, ◌∙◌, subst, length}
 use Rattle.std.specs.Prelude.{sum_by, count_by, Result, IfOk}
 use Rattle.hard_code.specs.declared.code.HardProgram.{HardProgram}
 use Rattle.hard_code.specs.Run.{is_call}
@@ -55,6 +55,7 @@ module _ (p o : HardProgram) (g : IsOrdered p o) (few : most_split_blocks p ≤ 
       };
       few = split_few;
       room_within = split_room;
+      reloads_same = c.reloads_same ∙ g.comes.reloads_same;
       initial = g.comes.initial;
       memory = g.comes.memory;
     };

@@ -1,5 +1,5 @@
 -- What becomes of a program of items whose streams are twins: a hardened image.
-use Rattle.std.specs.Prelude.{◌≡◌, ◌≤◌, ◌+◌, ◌*◌, ℕ, None, List, [], length, sum_by}
+use Rattle.std.specs.Prelude.{◌≡◌, ◌≤◌, ◌+◌, ◌*◌, ℕ, None, List, [], length, sum_by, count_by}
 use Rattle.hard_words.specs.Observed.{SameObserved}
 use Rattle.hard_words.specs.Words.{AreWords}
 use Rattle.mips_isa.specs.Runs.{observed}
@@ -10,10 +10,11 @@ use Rattle.mips_isa.specs.declared.instr.Instr.{Instr}
 use Rattle.mips_isa.specs.Turns.{IsTextOf, Turned, TurnedThrough}
 use Rattle.hard_code.specs.declared.code.HardProgram.{HardProgram}
 use Rattle.hard_code.specs.Run.{item_run}
-use Rattle.hard_code.specs.Counts.{branches, room}
+use Rattle.hard_code.specs.Counts.{branches, reloads, room}
 use Rattle.harden_law.specs.Hardened.{IsHardened}
 use Rattle.image_fits.specs.Law.{HasStarts}
 use Rattle.reached_words.specs.Reached.{NoDeadWords}
+use Rattle.layout_counts.specs.Counted.{is_load}
 
 -- The most blocks that a program can come to, one more for each branch.
 abbrev pub most_blocks : HardProgram → ℕ
@@ -47,6 +48,8 @@ pub record IsImageWithin (p : HardProgram) (i : ImageFields) (most_words most_st
   -- each word that neither begins a block nor is a break has a word before it
   pub no_dead_words : NoDeadWords i.text i.entry
   pub in_turns : IsInTurns i.text
+  -- it has as many loads through the stack pointers as the program
+  pub loads_same : count_by is_load i.text ≡ reloads p
   -- its blocks start at some of so many places of the text
   pub place : ℕ → ℕ
   pub starts : HasStarts i most_starts place

@@ -1,15 +1,17 @@
 -- What stands after the passes over items. These definitions serve private contracts alone.
-use Rattle.std.specs.Prelude.{◌≡◌, ◌≤◌, ◌+◌, ◌*◌, ℕ, List, length, map, sum_by, slice_index}
+use Rattle.std.specs.Prelude.{◌≡◌, ◌≤◌, ◌+◌, ◌*◌, ℕ, List, length, map, sum_by, count_by, slice_index}
 use Rattle.hard_code.specs.declared.code.HardProgram.{HardProgram}
 use Rattle.hard_code.specs.declared.code.Signed.{Signed}
 use Rattle.hard_code.specs.Rules.{Apart, Guarded, NeverReports}
 use Rattle.hard_code.specs.Counts.{Calm, Turned, TurnedThrough, branches, room}
+use Rattle.hard_code.specs.Counts.{Calm, branches, reloads, room}
 use Rattle.block_laws.specs.Runs.{SameRuns}
 use Rattle.mips_isa.specs.Image.{ImageFields}
 use Rattle.harden_law.specs.Hardened.{IsHardened}
 use Rattle.harden_law.specs.Laws.{RunsAs}
 use Rattle.image_fits.specs.Law.{HasStarts}
 use Rattle.reached_words.specs.Reached.{NoDeadWords}
+use Rattle.layout_counts.specs.Counted.{is_load}
 use Rattle.hard_code.specs.Heads.{headed}
 use Rattle.layout_law.specs.Layout.{words, address}
 use Rattle.layout_law.specs.Laws.{Prepared}
@@ -31,6 +33,7 @@ pub record ComesOf (p q : HardProgram) (most most_room : ℕ) : Type 0 where
   pub in_order : IsInOrder q
   pub few : most_blocks q ≤ most
   pub room_within : room q ≤ most_room
+  pub reloads_same : reloads q ≡ reloads p
   pub initial : q.initial ≡ p.initial
   pub memory : q.memory_words ≡ p.memory_words
 
@@ -52,6 +55,7 @@ pub record IsSignedOf (p : HardProgram) (s : Signed) : Type 0 where
   pub same_runs : SameRuns p s.program
   pub few : length s.program.blocks ≤ most_blocks p
   pub words_within : words s.program.blocks + 7 * length s.program.blocks ≤ room p
+  pub reloads_same : reloads s.program ≡ reloads p
   pub initial : s.program.initial ≡ p.initial
   pub memory : s.program.memory_words ≡ p.memory_words
   pub smooth : Smooth p → Smooth s.program
@@ -72,6 +76,7 @@ pub record IsImageOfSigned (s : Signed) (i : ImageFields) : Type 0 where
   pub words : length i.text ≡ words s.program.blocks + 7 * length s.program.blocks
   pub few_windows : length i.windows ≤ length i.text
   pub no_dead_words : NoDeadWords i.text i.entry
+  pub loads_same : count_by is_load i.text ≡ reloads s.program
   pub starts : (n : ℕ) → length s.program.blocks ≤ n → HasStarts i n (address (headed s))
   pub no_aliases : Smooth s.program → HasNoAliases i
   pub in_turns : Turned s.program → TurnedThrough s.program → IsInTurns i.text

@@ -23,7 +23,7 @@ use hard_words::OutOfMemory;
 use harden_law::{words_are_hardened, words_have_ways, words_run_as};
 use harden_lint::{LintError, lint};
 use image_fits::prepared_has_starts;
-use layout_counts::windows_are_few;
+use layout_counts::{reloads_are_loads, windows_are_few};
 use layout_law::{starts_are_blocks, text_length, words_are_typed};
 use layout_turns::{text_turned, text_turned_through};
 use reached_words::no_word_is_dead;
@@ -78,6 +78,7 @@ fn image_of(alloc: Global, signed: Signed) -> Result<Image, OutOfMemory>
     starts_are_blocks();
     text_length();
     windows_are_few();
+    reloads_are_loads();
     no_word_is_dead();
     prepared_has_starts();
     smooth_words_have_no_alias();

@@ -1,3 +1,4 @@
 mod Used
 mod Composed
 mod Known
+mod Leaf

@@ -2,10 +2,13 @@
 
 ghost use Rattle.std.specs.Prelude.{◌≡◌, IfOk, map, sum, length};
 ghost use Rattle.c_tree.specs.Meaning.{globals};
+ghost use Rattle.check_again.specs.Leaf.{IsLightLeaf};
+ghost use Rattle.check_rules.specs.Limits.{resolved_names};
 ghost use Rattle.lowering_chains.specs.Room.{room};
 ghost use Rattle.lowering_law.specs.Labels.{bare_clauses};
 ghost use Rattle.lowering_law.specs.Programs.{with_bodies};
 ghost use Rattle.compile_law.specs.Lowered.{IsLowered};
+ghost use Rattle.small_leaf.specs.Leaf.{IsOneLeaf};
 ghost use Rattle.mid_lower.specs.Facts.{Facts};
 
 use crate::globals::trim;
@@ -22,6 +25,7 @@ use checked_room::{
 use hard_words::OutOfMemory;
 use lower_functions::program;
 use lower_tables::{Names, shapes};
+use lowering_leaf::light_leaf_is_small;
 use mid_code::Mid;
 use prune_blocks::{prune, reached};
 use std::alloc::Global;
@@ -56,9 +60,11 @@ fn count_globals(alloc: Global, items: &[TopItem]) -> Result<usize, OutOfMemory>
 fn lower_in_room(alloc: Global, checked: &Checked, chain_pairs: u32) -> Result<Mid, OutOfMemory>
     requires known { Facts checked.now }
     requires room { chain_pairs ≡ room checked.now.program.items checked.now.main }
-    ensures { IfOk result (λ mid. IsLowered checked.now mid) }
+    ensures lowered { IfOk result (λ mid. IsLowered checked.now mid) }
+    ensures leaf { IfOk result (λ mid. IsLightLeaf (resolved_names checked.now) checked.now.program → IsOneLeaf mid) }
 {
     composes();
+    light_leaf_is_small();
     leads_inside();
     let items = checked.program().items.as_slice();
     let names = Names {
@@ -75,14 +81,16 @@ fn lower_in_room(alloc: Global, checked: &Checked, chain_pairs: u32) -> Result<M
 }
 
 /// The blocks of a checked program: what it is lowered to, without what can't be reached, and without the counter of nested calls where
-/// nothing uses it.
+/// nothing uses it. Where `main` has a weight of at most 9 and calls no function with a body, they are one function that has at most
+/// eight variables and calls nothing.
 ///
 /// # Errors
 ///
 /// [`OutOfMemory`] where there is no memory.
 pub fn lower(alloc: Global, checked: &Checked) -> Result<Mid, OutOfMemory>
     requires { sum (map bare_clauses (with_bodies checked.now.program.items)) ≡ 0 }
-    ensures { IfOk result (λ mid. IsLowered checked.now mid) }
+    ensures lowered { IfOk result (λ mid. IsLowered checked.now mid) }
+    ensures leaf { IfOk result (λ mid. IsLightLeaf (resolved_names checked.now) checked.now.program → IsOneLeaf mid) }
 {
     facts(checked);
     let items = checked.program().items.as_slice();

@@ -6,4 +6,4 @@ pub compile_checked-requires-clause-labelled : goal.compile_checked-requires-cla
 compile_checked-requires-clause-labelled c = labelled c.args.source.now c.in-Ok.checked c.parsed_is_labelled.ensures c.stays_labelled.ensures c.in-Ok.ensures.ok
 
 pub returns-clause-ok : goal.returns-clause-ok
-returns-clause-ok c = compiles c.args.source.now c.in-Ok.checked (fields_of c.in-Ok-compile_checked.image) c.lowered_is_hardened.ensures c.nodes_stay.ensures c.in-Ok.ensures.ok c.in-Ok-compile_checked.ensures
+returns-clause-ok c = compiles c.args.source.now c.in-Ok.checked (fields_of c.in-Ok-compile_checked.image) c.lowered_is_hardened.ensures c.nodes_stay.ensures c.stays_light.ensures c.in-Ok.ensures.ok c.in-Ok-compile_checked.ensures

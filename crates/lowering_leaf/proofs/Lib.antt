@@ -1,0 +1,3 @@
+mod Plain
+mod Kept
+mod Leaf

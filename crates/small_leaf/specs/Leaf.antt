@@ -1,0 +1,25 @@
+-- Programs of one small function that calls nothing, a leaf of the tree of calls, and the places of its variables.
+use Rattle.std.specs.Prelude.{◌≡◌, ◌≤◌, ℕ, false, length}
+use Rattle.std.specs.List.{All}
+use Rattle.mid_code.specs.declared.code.MidFunction.{MidFunction}
+use Rattle.mid_code.specs.declared.code.Mid.{Mid}
+use Rattle.mid_code.specs.declared.places.Place.TheVariants.{Slot}
+use Rattle.mid_code.specs.declared.places.Places.{Places}
+use Rattle.mid_code.specs.Liveness.{PlaceOf}
+use Rattle.mid_code.specs.Valid.{ValidFunction, is_call}
+use Rattle.register_halves.specs.Assigned.{AreAssigned}
+
+-- The function has at most eight variables, and calls nothing.
+pub record IsSmallLeaf (f : MidFunction) : Type 0 where
+  pub few : f.variables ≤ 8
+  pub calls_nothing : All (λ b. is_call b.end ≡ false) f.blocks
+
+-- The program is one such function.
+pub record IsOneLeaf (mid : Mid) : Type 0 where
+  pub one : length mid.functions ≤ 1
+  pub each : All IsSmallLeaf mid.functions
+
+-- Where such a function is valid, and its variables have places in the eight pairs, none of them is in a slot.
+abbrev pub LeafHasNoSlots : Type 0
+LeafHasNoSlots = (f : MidFunction) (places : Places) → ValidFunction f → IsSmallLeaf f → AreAssigned f 8 places →
+    (v slot : ℕ) → PlaceOf places v (Slot slot) → ⊥
