@@ -1,0 +1,4 @@
+mod Fitted
+mod Leaf
+mod Starts
+mod Composed
