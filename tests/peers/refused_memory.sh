@@ -107,7 +107,7 @@ each 3 compile whole.c new.img
 each 0 run a.img in 100
 each 4 run a.c in 100
 each 6 run a.img a.c 100
-each 10 audit a.img in 100
+each 0 audit a.img in 100
 each 0 campaign a.img in 100 3 5
 each 7 compile missing.c new.img
 each 2 compile
