@@ -51,7 +51,8 @@ fn goes_far(rt: HostRuntime) -> Result<(), Fail> {
     assert!(rt; fits(&image));
     let mut machine = Machine::boot(alloc, &image, Vec::from_slice(alloc, &[100])?)?;
     let mut out = MemorySink::new(alloc, 100)?;
+    let want: &[u8] = b"0\n1\n115\nexit 0\n";
     let done = replay(&mut machine, None, 100_000, &mut out).is_ok();
-    assert!(rt; done && out.written() == b"0\n1\n115\nexit 0\n");
+    assert!(rt; done && out.written() == want);
     Ok(())
 }
