@@ -8,14 +8,14 @@ use mips_machine::Machine;
 use std::alloc::Global;
 use std::test::Fail;
 
-// A loop that is gone through twice, the first time past the statements and the second time through them: 15 statements, each with 80
+// A loop that is gone through twice, the first time past the statements and the second time through them: 16 statements, each with 80
 // divisions by 1 and a sum.
 fn source(alloc: Global) -> Result<Vec<u8>, Fail> {
     let mut text = Vec::new(alloc);
     text.extend_from_slice(
         b"int main(void){int x = in_word(); for (int i = 0; i < 2; i++) {out_word(i); if (i) {",
     )?;
-    for _ in 0..15 {
+    for _ in 0..16 {
         text.extend_from_slice(b"x = x")?;
         for _ in 0..80 {
             text.extend_from_slice(b" / i")?;
@@ -56,7 +56,7 @@ fn goes_far(rt: HostRuntime) -> Result<(), Fail> {
     assert!(rt; fits(&image));
     let mut machine = Machine::boot(alloc, &image, Vec::from_slice(alloc, &[100])?)?;
     let mut out = MemorySink::new(alloc, 100)?;
-    let want: &[u8] = b"0\n1\n115\nexit 0\n";
+    let want: &[u8] = b"0\n1\n116\nexit 0\n";
     let done = replay(&mut machine, None, 100_000, &mut out).is_ok();
     assert!(rt; done && out.written() == want);
     Ok(())
