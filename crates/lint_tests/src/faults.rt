@@ -1,6 +1,6 @@
 //! Faults in runs of texts that the lint accepts.
 
-use crate::texts::{FIVE, JUMP};
+use crate::texts::{FIVE, JUMP, MEMORY};
 use elf_image::{Aliases, Image, Windows, fits};
 use fault_replay::replay;
 use hard_shelf::MemorySink;
@@ -10,13 +10,13 @@ use std::alloc::Global;
 use std::process::Abort;
 use std::test::Fail;
 
-// A machine about to run a text.
+// A machine about to run a text, with two words of memory.
 fn laid(rt: &impl Abort, alloc: Global, words: &[u32]) -> Result<Machine, Fail> {
     let image = Image {
         entry: 0x0040_0000,
         text: Words::from_vec(Vec::from_slice(alloc, words)?),
         initial: Words::new(alloc),
-        memory_words: 1,
+        memory_words: 2,
         windows: Windows::new(alloc),
         aliases: Aliases::new(alloc),
     };
@@ -37,6 +37,11 @@ fn shows(
         change.kind,
         ChangeKind::Flip { reg: 4, bit: 0 }
             | ChangeKind::Flip { reg: 9, bit: 31 }
+            | ChangeKind::Flip { reg: 5, bit: 0 }
+            | ChangeKind::Flip { reg: 5, bit: 31 }
+            | ChangeKind::Flip { reg: 15, bit: 31 }
+            | ChangeKind::Flip { reg: 6, bit: 30 }
+            | ChangeKind::Flip { reg: 16, bit: 30 }
             | ChangeKind::Divert { to: _ }
     );
     assert!(rt; known);
@@ -67,6 +72,34 @@ fn shows_faults(rt: HostRuntime) -> Result<(), Fail> {
     ];
     for (words, step, kind, steps, want) in cases {
         let shown = shows(&rt, rt.alloc(), words, Change { step, kind }, steps, want)?;
+        assert!(rt; shown, "{step}");
+    }
+    Ok(())
+}
+
+// A fault may end a run by an exception that tells of it: at a load 4 where the address isn't aligned and 7 where it is outside memory,
+// and 12 at a sum that overflows. At a store the check of the address reports first; only inside the window behind that check is there an
+// exception 5, which tells of no fault, or a 7.
+#[test]
+fn ends_by_exceptions(rt: HostRuntime) -> Result<(), Fail> {
+    let odd = ChangeKind::Flip { reg: 5, bit: 0 };
+    let outside = ChangeKind::Flip { reg: 5, bit: 31 };
+    let shadow_outside = ChangeKind::Flip { reg: 15, bit: 31 };
+    let large = ChangeKind::Flip { reg: 6, bit: 30 };
+    let shadow_large = ChangeKind::Flip { reg: 16, bit: 30 };
+    let cases: [(u64, ChangeKind, &[u8]); 9] = [
+        (8, odd, b"exception AdEL at 0x00400024\n"),
+        (8, outside, b"exception DBE at 0x00400024\n"),
+        (9, shadow_outside, b"exception DBE at 0x00400028\n"),
+        (12, large, b"exception Ov at 0x00400034\n"),
+        (13, shadow_large, b"exception Ov at 0x00400038\n"),
+        (14, odd, b"reported eddi at 0x00400044\n"),
+        (15, odd, b"exception AdES at 0x00400048\n"),
+        (17, shadow_outside, b"exception DBE at 0x0040004c\n"),
+        (18, shadow_outside, b"0\nexit 0\n"),
+    ];
+    for (step, kind, want) in cases {
+        let shown = shows(&rt, rt.alloc(), &MEMORY, Change { step, kind }, 100, want)?;
         assert!(rt; shown, "{step}");
     }
     Ok(())

@@ -10,7 +10,7 @@ const ENTRY: u32 = 0x0040_0000;
 // broken with the lowest rule there.
 #[test]
 fn refuses_at_the_lowest_address(rt: HostRuntime) -> Result<(), Fail> {
-    let cases: [(&[u32], usize, &[u32], u32, u32, u8); 24] = [
+    let cases: [(&[u32], usize, &[u32], u32, u32, u8); 26] = [
         // a word that is no instruction
         (&FIVE, 9, &[0xFFFF_FFFF], ENTRY, 0x0040_0024, 1),
         // a start without its head; its first word would also break rule 8
@@ -94,6 +94,10 @@ fn refuses_at_the_lowest_address(rt: HostRuntime) -> Result<(), Fail> {
         (&INPUT, 13, &[0x0040_7821], ENTRY, 0x0040_0028, 9),
         // lui $4,0 in a delay slot
         (&JUMP, 8, &[0x3C04_0000], ENTRY, 0x0040_0020, 10),
+        // break 1 in the delay slot of a jump
+        (&JUMP, 8, &[0x0000_004D], ENTRY, 0x0040_0020, 10),
+        // break 1 in the delay slot of an output's check
+        (&FIVE, 12, &[0x0000_004D], ENTRY, 0x0040_0030, 10),
         // a jump into a delay slot, which is a start without a head
         (&JUMP, 7, &[0x0810_0008], ENTRY, 0x0040_0020, 2),
     ];

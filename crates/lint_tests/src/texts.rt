@@ -77,3 +77,38 @@ pub(crate) const INPUT: [u32; 21] = [
     0x0000_000C, // 4c syscall
     0x0000_004D, // 50 break 1
 ];
+
+/// Puts out the first word of memory, and stores a sum in its place, which is not to overflow.
+pub(crate) const MEMORY: [u32; 31] = [
+    0x3B18_0001, // 00 xori $24,$24,1
+    0x0000_0000, // 04 nop
+    0x3401_0001, // 08 ori $1,$0,1
+    0x341C_0000, // 0c ori $28,$0,0
+    0x1301_0002, // 10 beq $24,$1,+2
+    0x0000_0000, // 14 nop
+    0x0000_008D, // 18 break 2
+    0x3C05_1001, // 1c lui $5,0x1001
+    0x3C0F_1001, // 20 lui $15,0x1001
+    0x8CA4_0000, // 24 lw $4,0($5)
+    0x8DEE_0004, // 28 lw $14,4($15)
+    0x3C06_2000, // 2c lui $6,0x2000
+    0x3C10_2000, // 30 lui $16,0x2000
+    0x00C6_3020, // 34 add $6,$6,$6
+    0x0210_8020, // 38 add $16,$16,$16
+    0x10AF_0002, // 3c beq $5,$15,+2
+    0x0000_0000, // 40 nop
+    0x0000_004D, // 44 break 1
+    0xACA6_0000, // 48 sw $6,0($5)
+    0xADF0_0004, // 4c sw $16,4($15)
+    0x108E_0002, // 50 beq $4,$14,+2
+    0x3402_0001, // 54 ori $2,$0,1
+    0x0000_004D, // 58 break 1
+    0x0000_000C, // 5c syscall
+    0x3C04_0000, // 60 lui $4,0
+    0x3C0E_0000, // 64 lui $14,0
+    0x108E_0002, // 68 beq $4,$14,+2
+    0x3402_0011, // 6c ori $2,$0,17
+    0x0000_004D, // 70 break 1
+    0x0000_000C, // 74 syscall
+    0x0000_004D, // 78 break 1
+];

@@ -1,6 +1,6 @@
 //! The windows and the rows of texts that the lint accepts.
 
-use crate::texts::{FIVE, INPUT, JUMP};
+use crate::texts::{FIVE, INPUT, JUMP, MEMORY};
 use harden_lint::lint;
 use std::test::Fail;
 use window_lister::windows;
@@ -10,7 +10,7 @@ const ENTRY: u32 = 0x0040_0000;
 // A text and its windows: a register that was checked, from behind the check to its use, and the service's number and answer.
 #[test]
 fn lists_windows(rt: HostRuntime) -> Result<(), Fail> {
-    let cases: [(&[u32], &[(u32, u8)]); 3] = [
+    let cases: [(&[u32], &[(u32, u8)]); 4] = [
         (
             &FIVE,
             &[
@@ -46,6 +46,26 @@ fn lists_windows(rt: HostRuntime) -> Result<(), Fail> {
                 (0x0040_0048, 4),
                 (0x0040_004C, 2),
                 (0x0040_004C, 4),
+            ],
+        ),
+        (
+            &MEMORY,
+            &[
+                (0x0040_0040, 5),
+                (0x0040_0040, 15),
+                (0x0040_0044, 5),
+                (0x0040_0044, 15),
+                (0x0040_0048, 5),
+                (0x0040_0048, 15),
+                (0x0040_004C, 15),
+                (0x0040_0054, 4),
+                (0x0040_0058, 4),
+                (0x0040_005C, 2),
+                (0x0040_005C, 4),
+                (0x0040_006C, 4),
+                (0x0040_0070, 4),
+                (0x0040_0074, 2),
+                (0x0040_0074, 4),
             ],
         ),
     ];
