@@ -113,9 +113,10 @@ impl Shelf for MemoryShelf {
         ensures too_large { IsErrOf result ShelfError.TooLarge ↔ (IsFalse (fails_next self.old) × HoldsMore (held_by self.old name.now) most) }
     {
         if self.is_failing() {
-            return Err(ShelfError::Failed);
+            Err(ShelfError::Failed)
+        } else {
+            self.files.take(alloc, name, most)
         }
-        self.files.take(alloc, name, most)
     }
 
     fn put(&mut self, name: &str, bytes: &[u8]) -> Result<(), ShelfError>
