@@ -88,4 +88,5 @@ pub record MayRelay (relays : ℕ → Relays) (p : HardProgram) : Type 0 where
   pub goes : (b t : ℕ) (i : Item) → Holds p b i → i.fix ≡ Block t → ((target : ℕ) × (i.instr ≡ J target)) ⊎ is_branch i.instr
   pub fits : (b t : ℕ) (i : Item) → Holds p b i → i.fix ≡ Block t → RelaysFit (relays b) i t
   pub no_number : (b t : ℕ) (i : Item) → Holds p b i → relays b ≡ Turned t → makes_number i ≡ false
-  pub returns : (b n rs : ℕ) (i : Item) → Holds p b i → i.instr ≡ Jr rs → MayFollow p b n → (f caller : ℕ) × (n ≡ caller + 1) × IsOfFunction p b f × CallsFunction p caller f
+  pub returns : (b n rs : ℕ) (i : Item) → Holds p b i → i.instr ≡ Jr rs → MayFollow p b n → (f caller : ℕ) × (n ≡ caller + 1) × IsOfFunction p b f ×
+      CallsFunction p caller f

@@ -59,8 +59,10 @@ NoBlock f = Unit {0}
 pub data ItemPlaced (p q : HardProgram) (place : ℕ → ℕ) (b : ℕ) (i j : Item) : Type 0 where
   same : j ≡ i → NoBlock i.fix → (makes_number i ≡ true → LeadsTo q place (place b + 1) (b + 1)) → ItemPlaced p q place b i j
   jumps : (t n target : ℕ) → i.fix ≡ Block t → i.instr ≡ J target → j ≡ record i { fix = Block n } → LeadsTo q place n t → ItemPlaced p q place b i j
-  branches : (t n : ℕ) → i.fix ≡ Block t → is_branch i.instr → j ≡ record i { fix = Block n } → LeadsTo q place n t → LeadsTo q place (place b + 1) (b + 1) → ItemPlaced p q place b i j
-  turns : (t n : ℕ) → i.fix ≡ Block t → IsTest i.instr → j ≡ record i { instr = opposite i.instr; fix = Block n } → LeadsTo q place n (b + 1) → LeadsTo q place (place b + 1) t → ItemPlaced p q place b i j
+  branches : (t n : ℕ) → i.fix ≡ Block t → is_branch i.instr → j ≡ record i { fix = Block n } → LeadsTo q place n t →
+      LeadsTo q place (place b + 1) (b + 1) → ItemPlaced p q place b i j
+  turns : (t n : ℕ) → i.fix ≡ Block t → IsTest i.instr → j ≡ record i { instr = opposite i.instr; fix = Block n } → LeadsTo q place n (b + 1) →
+      LeadsTo q place (place b + 1) t → ItemPlaced p q place b i j
 
 abbrev pub ItemsPlaced : (p q : HardProgram) (place : ℕ → ℕ) (b : ℕ) → List Item → List Item → Type 0
 ItemsPlaced p q place b [] [] = Unit {0}

@@ -1,5 +1,6 @@
 -- The far form by lists, as it is built. It serves private contracts alone.
-use Rattle.std.specs.Prelude.{◌≡◌, ◌<◌, ℕ, ◌+◌, Bool, ◌==◌, ◌||◌, false, nat_lt, if◌then◌else◌, min, Option, Some, None, List, [], ◌∷◌, length, map, slice_index, get_or, All}
+use Rattle.std.specs.Prelude.{◌≡◌, ◌<◌, ℕ, ◌+◌, Bool, ◌==◌, ◌||◌, false, nat_lt, if◌then◌else◌, min, Option, Some, None, List, [], ◌∷◌, length, map}
+use Rattle.std.specs.Prelude.{slice_index, get_or, All}
 use Rattle.std.specs.List.{range_with_len}
 use Rattle.hard_code.specs.declared.code.Fix.{Fix}
 use Rattle.hard_code.specs.declared.code.Fix.TheVariants.{Plain, Block}

@@ -65,7 +65,8 @@ far_place p = place_of (far_relays p)
 -- A block in its place, and the block that jumps on for it, if its branch is far.
 abbrev pub far_block : (ℕ → ℕ) → ℕ → Option ℕ → HardBlock → List HardBlock
 far_block place b None k = record { items = map (put_item place b Nothing) k.items; successors = map place k.successors } ∷ []
-far_block place b (Some t) k = record { items = map (put_item place b (Turned t)) k.items; successors = (place b + 1) ∷ place (b + 1) ∷ [] } ∷ record { items = relay place t; successors = place t ∷ [] } ∷ []
+far_block place b (Some t) k = record { items = map (put_item place b (Turned t)) k.items; successors = (place b + 1) ∷ place (b + 1) ∷ [] } ∷
+    record { items = relay place t; successors = place t ∷ [] } ∷ []
 
 -- The blocks, from block b on, by the goals of their far branches.
 abbrev pub far_blocks : (ℕ → ℕ) → (ℕ → Option ℕ) → ℕ → List HardBlock → List HardBlock

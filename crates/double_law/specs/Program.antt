@@ -1,5 +1,6 @@
 -- The program that a program in blocks becomes.
-use Rattle.std.specs.Prelude.{◌≡◌, ◌<◌, ℕ, ◌+◌, ◌*◌, ◌-◌, ◌/◌, ◌%◌, ◌^◌, zero, suc, List, [], ◌∷◌, ◌++◌, flat_map, length, map, sum, take, Option, Some, None, slice_get, slice_index_or}
+use Rattle.std.specs.Prelude.{◌≡◌, ◌<◌, ℕ, ◌+◌, ◌*◌, ◌-◌, ◌/◌, ◌%◌, ◌^◌, zero, suc, List, [], ◌∷◌, ◌++◌, flat_map, length, map, sum, take, Option}
+use Rattle.std.specs.Prelude.{Some, None, slice_get, slice_index_or}
 use Rattle.mips_isa.specs.declared.instr.Instr.TheVariants as mips
 use Rattle.hard_code.specs.declared.code.Class.TheVariants as class
 use Rattle.hard_code.specs.declared.code.Item.{Item}

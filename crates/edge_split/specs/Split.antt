@@ -123,7 +123,13 @@ relay_block place c = record { items = relay place c; successors = place c ∷ [
 -- The blocks, from block b on: each in its place, and those that are put behind it.
 abbrev pub split_blocks : (ℕ → ℕ) → (ℕ → Plan) → ℕ → List HardBlock → List HardBlock
 split_blocks place plans b [] = []
-split_blocks place plans b (k ∷ more) = (placed_block place b (plans b) k ∷ map (relay_block place) (goals b (relays_as (plans b)))) ++ split_blocks place plans (b + 1) more
+split_blocks place plans b (k ∷ more) = (placed_block place b (plans b) k ∷ map (relay_block place) (goals b (relays_as (plans b)))) ++
+    split_blocks place plans (b + 1) more
 
 abbrev pub smoothed : HardProgram → HardProgram
-smoothed p = record { blocks = split_blocks (split_place p) (plan_of p) 0 p.blocks; entries = map (split_place p) p.entries; initial = p.initial; memory_words = p.memory_words }
+smoothed p = record {
+  blocks = split_blocks (split_place p) (plan_of p) 0 p.blocks;
+  entries = map (split_place p) p.entries;
+  initial = p.initial;
+  memory_words = p.memory_words;
+}

@@ -6,7 +6,8 @@ use Rattle.mips_isa.specs.Image.{ImageFields, boot_state}
 use Rattle.elf_image.specs.declared.layout.Field.{Field}
 use Rattle.elf_image.specs.declared.layout.Sizes.{Sizes}
 use Rattle.elf_image.specs.declared.layout.TheConstants.{HEADER}
-use Rattle.elf_image.specs.Layout.{sizes_of, data_at, windows_at, aliases_at, names_at, sections_at, text_segment, data_segment, no_section, text_section, data_section, windows_section, aliases_section, names_section, names}
+use Rattle.elf_image.specs.Layout.{sizes_of, data_at, windows_at, aliases_at, names_at, sections_at, text_segment, data_segment, no_section}
+use Rattle.elf_image.specs.Layout.{text_section, data_section, windows_section, aliases_section, names_section, names}
 use Rattle.elf_image.specs.Bounds.{Bounds}
 
 -- the number in so many bytes from an offset on, high byte first

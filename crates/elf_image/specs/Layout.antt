@@ -110,7 +110,8 @@ segments s = flat_map word (text_segment s) ++ flat_map word (data_segment s)
 
 -- the 240 bytes that tell of the sections
 unfoldable pub sections : Sizes → List ℕ
-sections s = flat_map word no_section ++ flat_map word (text_section s) ++ flat_map word (data_section s) ++ flat_map word (windows_section s) ++ flat_map word (aliases_section s) ++ flat_map word (names_section s)
+sections s = flat_map word no_section ++ flat_map word (text_section s) ++ flat_map word (data_section s) ++ flat_map word (windows_section s) ++
+    flat_map word (aliases_section s) ++ flat_map word (names_section s)
 
 -- so many zero bytes; unfoldable, so that no goal writes them out
 unfoldable pub zeros : ℕ → List ℕ

@@ -6,7 +6,8 @@ use Rattle.elf_image.specs.declared.layout.TheConstants.{HEADER}
 use Rattle.elf_image.specs.declared.layout.Sizes.{Sizes}
 use Rattle.elf_image.specs.declared.read.ImageError.{ImageError}
 use Rattle.elf_image.specs.declared.read.ImageError.TheVariants.{Truncated, NotElf, NotMips, BadHeader, BadSegment, BadSection, TrailingBytes}
-use Rattle.elf_image.specs.Layout.{data_at, windows_at, aliases_at, names_at, text_segment, data_segment, no_section, text_section, data_section, windows_section, aliases_section, names_section, names}
+use Rattle.elf_image.specs.Layout.{data_at, windows_at, aliases_at, names_at, text_segment, data_segment, no_section, text_section, data_section}
+use Rattle.elf_image.specs.Layout.{windows_section, aliases_section, names_section, names}
 use Rattle.elf_image.specs.Bounds.{is_in_text, is_window, is_alias, all_ascending}
 use Rattle.elf_image.specs.Held.{number_at, has}
 

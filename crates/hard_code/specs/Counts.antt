@@ -1,5 +1,6 @@
 -- Numbers of a program of items, and what its order of items keeps clear of.
-use Rattle.std.specs.Prelude.{◌≡◌, ◌<◌, ℕ, zero, suc, ◌+◌, ◌-◌, ◌*◌, Bool, true, false, not, ◌==◌, ◌&&◌, ◌||◌, nat_lt, if◌then◌else◌, max, List, [], ◌∷◌, ◌++◌, length, map, sum, sum_by, count_by, replicate, slice_get, Some}
+use Rattle.std.specs.Prelude.{◌≡◌, ◌<◌, ℕ, zero, suc, ◌+◌, ◌-◌, ◌*◌, Bool, true, false, not, ◌==◌, ◌&&◌, ◌||◌, nat_lt, if◌then◌else◌, max, List, []}
+use Rattle.std.specs.Prelude.{◌∷◌, ◌++◌, length, map, sum, sum_by, count_by, replicate, slice_get, Some}
 use Rattle.mips_isa.specs.declared.instr.Instr.{Instr}
 use Rattle.mips_isa.specs.declared.instr.Instr.TheVariants.{Sll, Lw, Sw, Break, Syscall, Beq, Bne, Jr, Ori}
 use Rattle.mips_isa.specs.Machine.{reads_of, is_product, is_jump, among}

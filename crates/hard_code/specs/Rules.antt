@@ -1,6 +1,7 @@
 -- What holds in every state of every run of a program of items: the rules on which the checks, the order of the items, the
 -- layout and the tests of the emitted words rely.
-use Rattle.std.specs.Prelude.{◌≡◌, ◌<◌, ◌⊎◌, ℕ, ◌+◌, ◌%◌, ◌^◌, Bool, true, false, ◌==◌, ◌&&◌, ◌||◌, if◌then◌else◌, IsTrue, List, [], ◌∷◌, ◌++◌, flat_map, Option, Some, None, All}
+use Rattle.std.specs.Prelude.{◌≡◌, ◌<◌, ◌⊎◌, ℕ, ◌+◌, ◌%◌, ◌^◌, Bool, true, false, ◌==◌, ◌&&◌, ◌||◌, if◌then◌else◌, IsTrue, List, [], ◌∷◌, ◌++◌}
+use Rattle.std.specs.Prelude.{flat_map, Option, Some, None, All}
 use Rattle.hard_words.specs.Words.{extended, AreWords}
 use Rattle.hard_words.specs.Stepping.{Always, go}
 use Rattle.mips_isa.specs.declared.instr.Instr.{Instr}

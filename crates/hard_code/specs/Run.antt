@@ -1,7 +1,8 @@
 -- The run of a program of items: registers and memory as on the machine, block numbers in place of addresses, and beside each
 -- register and each word of memory whether it holds a return number. What an item does to registers and memory is what its
 -- instruction does on the machine; hazards have no part in it.
-use Rattle.std.specs.Prelude.{ℕ, ◌+◌, ◌-◌, Bool, true, false, not, ◌==◌, if◌then◌else◌, Option, Some, None, List, [], ◌∷◌, ◌++◌, length, replicate, drop, slice_get, slice_index}
+use Rattle.std.specs.Prelude.{ℕ, ◌+◌, ◌-◌, Bool, true, false, not, ◌==◌, if◌then◌else◌, Option, Some, None, List, [], ◌∷◌, ◌++◌, length, replicate}
+use Rattle.std.specs.Prelude.{drop, slice_get, slice_index}
 use Rattle.hard_words.specs.Observed.{Observation}
 use Rattle.hard_words.specs.Stepping.{Stepper, watch}
 use Rattle.mips_isa.specs.declared.instr.Instr.{Instr}
@@ -32,7 +33,21 @@ pub record Data : Type 0 where
 
 -- A machine with these registers and this memory; its other parts have no part in what an item does.
 abbrev pub machine_of : Data → machine.State
-machine_of d = record { pc = 0; npc = 0; regs = d.regs; hi = d.hi; lo = d.lo; text = []; memory = d.memory; feed = d.feed; fed = d.fed; last_load = 0; quiet = 0; slot = false; end = None }
+machine_of d = record {
+  pc = 0;
+  npc = 0;
+  regs = d.regs;
+  hi = d.hi;
+  lo = d.lo;
+  text = [];
+  memory = d.memory;
+  feed = d.feed;
+  fed = d.fed;
+  last_load = 0;
+  quiet = 0;
+  slot = false;
+  end = None;
+}
 
 -- What a register holds.
 abbrev pub held : Data → ℕ → ℕ
@@ -222,7 +237,16 @@ items p = record { step = λ s. step_from p s s.end; end = λ s. s.end }
 
 -- The data at the start: all registers, HI and LO 0, the initial words in memory and zeros behind them, no return number.
 abbrev pub first_data : HardProgram → List ℕ → Data
-first_data p input = record { regs = replicate 32 0; hi = 0; lo = 0; memory = p.initial ++ replicate (p.memory_words - length p.initial) 0; feed = input; fed = 0; backs = λ r. false; stored = λ q. false }
+first_data p input = record {
+  regs = replicate 32 0;
+  hi = 0;
+  lo = 0;
+  memory = p.initial ++ replicate (p.memory_words - length p.initial) 0;
+  feed = input;
+  fed = 0;
+  backs = λ r. false;
+  stored = λ q. false;
+}
 
 -- The state at the start of a run.
 abbrev pub first_spot : HardProgram → List ℕ → Spot

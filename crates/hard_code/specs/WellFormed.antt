@@ -79,17 +79,20 @@ pub record WellFormed (p : HardProgram) : Type 0 where
   -- a branch or a jump skips a break or is the last item but one
   pub only_at_the_end : (b k : ℕ) (i : Item) → ItemAt (items_of p b) k i → is_jump i.instr ≡ true → SkipsBreak (items_of p b) k ⊎ (k + 2 ≡ length (items_of p b))
   -- a conditional branch that names no block skips a break
-  pub skips_or_names : (b k rs rt imm : ℕ) (i : Item) → ItemAt (items_of p b) k i → (i.instr ≡ Beq rs rt imm) ⊎ (i.instr ≡ Bne rs rt imm) → i.fix ≡ Plain → SkipsBreak (items_of p b) k
+  pub skips_or_names : (b k rs rt imm : ℕ) (i : Item) → ItemAt (items_of p b) k i → (i.instr ≡ Beq rs rt imm) ⊎ (i.instr ≡ Bne rs rt imm) →
+      i.fix ≡ Plain → SkipsBreak (items_of p b) k
   pub ends_well : (b : ℕ) → b < length p.blocks → EndsWell (items_of p b)
   -- no break that a branch skips is the last item
   pub goes_on_behind_skips : (b k : ℕ) → SkipsBreak (items_of p b) k → k + 3 < length (items_of p b)
   -- a branch stays in its function, and so does the block behind it
   pub branch_stays : (b k t rs rt imm : ℕ) (i : Item) → ItemAt (items_of p b) k i → i.fix ≡ Block t → (i.instr ≡ Beq rs rt imm) ⊎ (i.instr ≡ Bne rs rt imm) →
       (b + 1 < length p.blocks) × ((f : ℕ) → (IsOfFunction p b f ↔ IsOfFunction p t f) × (IsOfFunction p b f ↔ IsOfFunction p (b + 1) f))
-  pub one_return : (b c f k m rs rt : ℕ) (i j : Item) → IsOfFunction p b f → IsOfFunction p c f → ItemAt (items_of p b) k i → ItemAt (items_of p c) m j → i.instr ≡ Jr rs → j.instr ≡ Jr rt → b ≡ c
+  pub one_return : (b c f k m rs rt : ℕ) (i j : Item) → IsOfFunction p b f → IsOfFunction p c f → ItemAt (items_of p b) k i →
+      ItemAt (items_of p c) m j → i.instr ≡ Jr rs → j.instr ≡ Jr rt → b ≡ c
   pub call_goes_on : (b f : ℕ) → CallsFunction p b f → b + 1 < length p.blocks
   pub each_entered : (c : ℕ) → 0 < c → c < length p.blocks → IsEntered p c
   pub first_not_entered : (b : ℕ) → MayFollow p b 0 → ⊥
   -- the lists of successors: ascending, each once, exactly the blocks that may follow
-  pub successors_ascend : (b k c d : ℕ) (block : HardBlock) → slice_get p.blocks b ≡ Some block → slice_get block.successors k ≡ Some c → slice_get block.successors (k + 1) ≡ Some d → c < d
+  pub successors_ascend : (b k c d : ℕ) (block : HardBlock) → slice_get p.blocks b ≡ Some block → slice_get block.successors k ≡ Some c →
+      slice_get block.successors (k + 1) ≡ Some d → c < d
   pub successors_are : (b c : ℕ) (block : HardBlock) → slice_get p.blocks b ≡ Some block → Contains block.successors c ↔ MayFollow p b c

@@ -28,17 +28,22 @@ pub record IsHardened (i : ImageFields) : Type 0 where
   -- the windows are listed, and no others;
   pub windows : AreWindows i.text i.windows
   -- any word put in any place that is no listed window, just before any step, is unseen or told after every number of steps;
-  pub detects : (input : List ℕ) → AreWords input → (n : ℕ) (place : SetPlace) (word : ℕ) → IsUnlisted i.windows (image_run i input None n).state.pc place → Detects i input n place word
+  pub detects : (input : List ℕ) → AreWords input → (n : ℕ) (place : SetPlace) (word : ℕ) →
+      IsUnlisted i.windows (image_run i input None n).state.pc place → Detects i input n place word
   -- and so is a bit inverted in a register;
-  pub shows_flips : (input : List ℕ) → AreWords input → (n r bit : ℕ) → 1 ≤ r → (Contains i.windows ((image_run i input None n).state.pc, r) → ⊥) → (k : ℕ) → FlipShown i input n r bit k
+  pub shows_flips : (input : List ℕ) → AreWords input → (n r bit : ℕ) → 1 ≤ r → (Contains i.windows ((image_run i input None n).state.pc, r) → ⊥) →
+      (k : ℕ) → FlipShown i input n r bit k
   -- each block begins with a head;
   pub heads : (u : ℕ) → IsStart i.text i.entry u → (h : Head) × HeadAt i.text u h
   -- the signatures of different blocks differ, and none is 0;
-  pub signs_differ : (u w : ℕ) (g h : Head) → IsStart i.text i.entry u → IsStart i.text i.entry w → HeadAt i.text u g → HeadAt i.text w h → (g.s ≢ 0) × (g.s ≡ h.s → u ≡ w)
+  pub signs_differ : (u w : ℕ) (g h : Head) → IsStart i.text i.entry u → IsStart i.text i.entry w → HeadAt i.text u g → HeadAt i.text w h →
+      (g.s ≢ 0) × (g.s ≡ h.s → u ≡ w)
   -- the aliases are listed, and no others;
   pub aliases : AreAliases i.text i.entry i.aliases
   -- each alias leads to a block that is linked to a successor;
   pub linked : (u w : ℕ) → IsAlias i.text i.entry u w → (v : ℕ) × (Succ i.text i.entry u v × Linked i.text i.entry v w)
   -- and a branch or jump of a block that is led to another block, neither a successor nor listed, is caught.
-  pub catches : (input : List ℕ) → AreWords input → (n u w : ℕ) (jump : Instr) → (image_run i input None n).state.end ≡ None → At i.text (image_run i input None n).state.pc jump → is_jump jump ≡ true →
-      InSpan i.text i.entry u (image_run i input None n).state.pc → IsStart i.text i.entry w → (Succ i.text i.entry u w → ⊥) → (Contains i.aliases (u, w) → ⊥) → Caught i input n w
+  pub catches : (input : List ℕ) → AreWords input → (n u w : ℕ) (jump : Instr) → (image_run i input None n).state.end ≡ None →
+      At i.text (image_run i input None n).state.pc jump → is_jump jump ≡ true →
+      InSpan i.text i.entry u (image_run i input None n).state.pc → IsStart i.text i.entry w → (Succ i.text i.entry u w → ⊥) →
+      (Contains i.aliases (u, w) → ⊥) → Caught i input n w

@@ -43,7 +43,8 @@ SignedInStep = (s : Signed) (input : List ℕ) → Prepared s → AreWords input
 
 -- The words are the same observed from outside as the items.
 abbrev pub SignedWordsSame : Type 0
-SignedWordsSame = (s : Signed) (input : List ℕ) → Prepared s → AreWords input → SameObserved (observed (boot_state (image (headed s)) input) None) (item_run s.program input)
+SignedWordsSame = (s : Signed) (input : List ℕ) → Prepared s → AreWords input →
+    SameObserved (observed (boot_state (image (headed s)) input) None) (item_run s.program input)
 
 -- One word for each item, and seven for each head.
 abbrev pub TextLength : Type 0

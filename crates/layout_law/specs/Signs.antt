@@ -83,5 +83,6 @@ HeadsSame = (s : Signed) (input : List ℕ) → Signing s → Always (items s.pr
 
 -- Where the program never reports, the words with heads are the same observed from outside as the run of items.
 abbrev pub HeadedWordsSame : Type 0
-HeadedWordsSame = (s : Signed) (input : List ℕ) → Laying s → Signing s → AreWords input → ((input : List ℕ) → AreWords input → Always (items s.program) (first_spot s.program input) (LawfulAt s.program)) → NeverReports s.program →
+HeadedWordsSame = (s : Signed) (input : List ℕ) → Laying s → Signing s → AreWords input →
+    ((input : List ℕ) → AreWords input → Always (items s.program) (first_spot s.program input) (LawfulAt s.program)) → NeverReports s.program →
     SameObserved (observed (boot_state (image (headed s)) input) None) (item_run s.program input)

@@ -22,4 +22,5 @@ abbrev pub LaidPlaced : Type 0
 LaidPlaced = (p : HardProgram) (input : List ℕ) → Layable p → Entered p → Always (items p) (first_spot p input) (LawfulAt p) → Placed (image p) input
 
 abbrev pub LaidUnreported : Type 0
-LaidUnreported = (p : HardProgram) (input : List ℕ) → Layable p → Entered p → AreWords input → Always (items p) (first_spot p input) (LawfulAt p) → NeverReports p → Unreported (image p) input
+LaidUnreported = (p : HardProgram) (input : List ℕ) → Layable p → Entered p → AreWords input → Always (items p) (first_spot p input) (LawfulAt p) →
+    NeverReports p → Unreported (image p) input

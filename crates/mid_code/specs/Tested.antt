@@ -1,5 +1,6 @@
 -- The tests of functions and programs as they are made; these definitions serve private contracts alone.
-use Rattle.std.specs.Prelude.{◌≡◌, ℕ, zero, suc, ◌+◌, ◌-◌, ◌<◌, Bool, true, false, not, ◌||◌, ◌&&◌, ◌==◌, nat_lt, nat_le, if◌then◌else◌, List, map, sum, length, count_by, Option, Some, None, is_some, slice_get, slice_index_or}
+use Rattle.std.specs.Prelude.{◌≡◌, ℕ, zero, suc, ◌+◌, ◌-◌, ◌<◌, Bool, true, false, not, ◌||◌, ◌&&◌, ◌==◌, nat_lt, nat_le, if◌then◌else◌, List, map}
+use Rattle.std.specs.Prelude.{sum, length, count_by, Option, Some, None, is_some, slice_get, slice_index_or}
 use Rattle.std.specs.List.{list_all, list_any}
 use Rattle.mid_code.specs.declared.code.MidStep.{MidStep}
 use Rattle.mid_code.specs.declared.code.MidEnd.{MidEnd}
@@ -100,7 +101,9 @@ targets_exist blocks = list_all (λ b. is_below (length blocks) (target b.end)) 
 
 -- the tests of a function that look at one block at a time
 abbrev pub shape_fits : MidFunction → Bool
-shape_fits f = numbers_fit f && (variables_exist f.variables f.blocks && (targets_exist f.blocks && (closes (slice_get f.blocks (length f.blocks - 1)) && (nat_le (count_by (λ b. is_return b.end) f.blocks) 1 && is_some (few (length (lines f)))))))
+shape_fits f = numbers_fit f && (variables_exist f.variables f.blocks &&
+    (targets_exist f.blocks && (closes (slice_get f.blocks (length f.blocks - 1)) && (nat_le (count_by (λ b. is_return b.end) f.blocks) 1 &&
+    is_some (few (length (lines f)))))))
 
 abbrev pub is_main : Option MidFunction → Bool
 is_main None = false

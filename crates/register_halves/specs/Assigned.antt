@@ -65,5 +65,6 @@ pub record IsTaken (f : MidFunction) (pairs : ℕ) (locals : List Span) (places 
   pub own : (v slot : ℕ) → slice_get places v ≡ Some (Slot slot) → slot ≡ own_slot f v
   pub in_pairs : (v k : ℕ) → slice_get places v ≡ Some (Pair k) → k < pairs
   pub across : (v at k : ℕ) → IsLiveAcross f v at → slice_get places v ≡ Some (Pair k) → ⊥
-  pub apart : (s t : Span) (k : ℕ) → Contains locals s → Contains locals t → s.variable ≢ t.variable → slice_get places s.variable ≡ Some (Pair k) → slice_get places t.variable ≡ Some (Pair k) → (s.to < t.from) ⊎ (t.to < s.from)
+  pub apart : (s t : Span) (k : ℕ) → Contains locals s → Contains locals t → s.variable ≢ t.variable → slice_get places s.variable ≡ Some (Pair k) →
+      slice_get places t.variable ≡ Some (Pair k) → (s.to < t.from) ⊎ (t.to < s.from)
   pub none_spilled : FewOverlap f pairs → (v slot : ℕ) → IsLocal f v → slice_get places v ≡ Some (Slot slot) → ⊥

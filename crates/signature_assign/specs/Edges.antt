@@ -1,5 +1,6 @@
 -- The edges of a graph of blocks, seen from where they lead; these definitions serve private contracts alone.
-use Rattle.std.specs.Prelude.{◌≡◌, ◌<◌, ◌≤◌, ℕ, ◌+◌, Bool, false, Some, nat_le, ◌==◌, if◌then◌else◌, List, [], ◌∷◌, ◌++◌, map, length, slice_get, slice_index, slice_set, get_or, replicate}
+use Rattle.std.specs.Prelude.{◌≡◌, ◌<◌, ◌≤◌, ℕ, ◌+◌, Bool, false, Some, nat_le, ◌==◌, if◌then◌else◌, List, [], ◌∷◌, ◌++◌, map, length, slice_get}
+use Rattle.std.specs.Prelude.{slice_index, slice_set, get_or, replicate}
 use Rattle.std.specs.List.{list_any}
 use Rattle.sign_law.specs.Graph.{IsSucc, HasTwo}
 use Rattle.hard_code.specs.declared.code.Mark.{Mark}

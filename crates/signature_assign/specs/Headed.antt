@@ -1,5 +1,6 @@
 -- What the heads of a program need of it, and how its run with heads stands beside its run without them.
-use Rattle.std.specs.Prelude.{◌≡◌, ◌≢◌, ◌≤◌, ◌<◌, ◌⊎◌, ℕ, ◌+◌, Bool, true, false, IsTrue, if◌then◌else◌, Option, Some, None, List, [], ◌∷◌, ◌++◌, length, get_or, slice_get, slice_index, bit_xor}
+use Rattle.std.specs.Prelude.{◌≡◌, ◌≢◌, ◌≤◌, ◌<◌, ◌⊎◌, ℕ, ◌+◌, Bool, true, false, IsTrue, if◌then◌else◌, Option, Some, None, List, [], ◌∷◌, ◌++◌}
+use Rattle.std.specs.Prelude.{length, get_or, slice_get, slice_index, bit_xor}
 use Rattle.hard_words.specs.Stepping.{Always, go}
 use Rattle.hard_words.specs.Observed.{SameObserved}
 use Rattle.hard_words.specs.Words.{AreWords}
@@ -100,7 +101,8 @@ pub data Stands (s : Signed) (start : Spot) (l : Spot) : Type 0 where
 -- the last item but one of its block names a block.
 pub record BlocksFit (p : HardProgram) : Type 0 where
   pub spares : (b k : ℕ) (i : Item) → slice_get (items_of p b) k ≡ Some i → Spares i
-  pub last_names : (b k rs rt imm : ℕ) (i : Item) → slice_get (items_of p b) k ≡ Some i → (i.instr ≡ Beq rs rt imm) ⊎ (i.instr ≡ Bne rs rt imm) → k + 2 ≡ length (items_of p b) → (t : ℕ) × (i.fix ≡ Block t)
+  pub last_names : (b k rs rt imm : ℕ) (i : Item) → slice_get (items_of p b) k ≡ Some i → (i.instr ≡ Beq rs rt imm) ⊎ (i.instr ≡ Bne rs rt imm) →
+      k + 2 ≡ length (items_of p b) → (t : ℕ) × (i.fix ≡ Block t)
 
 -- ---- the laws
 

@@ -1,5 +1,6 @@
 -- For private contracts alone: the tests of a program of items as they are made.
-use Rattle.std.specs.Prelude.{◌≡◌, ◌<◌, ℕ, ◌+◌, ◌-◌, Bool, true, false, not, ◌&&◌, ◌||◌, ◌==◌, nat_lt, nat_le, if◌then◌else◌, List, [], ◌∷◌, ◌++◌, length, Option, Some, None, slice_get, slice_index, slice_index_or, All}
+use Rattle.std.specs.Prelude.{◌≡◌, ◌<◌, ℕ, ◌+◌, ◌-◌, Bool, true, false, not, ◌&&◌, ◌||◌, ◌==◌, nat_lt, nat_le, if◌then◌else◌, List, [], ◌∷◌, ◌++◌}
+use Rattle.std.specs.Prelude.{length, Option, Some, None, slice_get, slice_index, slice_index_or, All}
 use Rattle.std.specs.List.{list_all, list_any, fold}
 use Rattle.std.specs.Option.{option_to_list}
 use Rattle.mips_isa.specs.declared.instr.Instr.{Instr}
@@ -302,7 +303,8 @@ Follow blocks entries n = (b : ℕ) (block : HardBlock) → b < n → slice_get 
 -- ---- the groups of tests
 
 abbrev pub numbers_fit : HardProgram → Bool
-numbers_fit p = nat_lt 0 (length p.blocks) && (nat_lt (length p.blocks) 4294967296 && (nat_le (length p.initial) p.memory_words && (nat_le 1 p.memory_words && nat_le p.memory_words 4194304)))
+numbers_fit p = nat_lt 0 (length p.blocks) && (nat_lt (length p.blocks) 4294967296 && (nat_le (length p.initial) p.memory_words &&
+    (nat_le 1 p.memory_words && nat_le p.memory_words 4194304)))
 
 pub record FunctionsFit (blocks : List HardBlock) (entries : List ℕ) : Type 0 where
   pub there : list_all (λ e. nat_lt e (length blocks)) entries ≡ true
