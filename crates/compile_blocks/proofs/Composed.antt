@@ -93,6 +93,8 @@ image_within : (mid : Mid) (p : HardProgram) (i : ImageFields) (most_words most_
     HardenedFits → length i.aliases ≤ 256000000 → most_words ≤ 66060288 → most_words ≤ m → most_starts ≤ n → IsImageOfBlocksWithin mid i m n
 image_within mid p i most_words most_starts m n r d w g fits few room small starts = record {
   same = λ input a. same_transitive End (observed (boot_state i input) None) (item_run p input) (blocks_seen mid input) (g.same input a) (d.runs input a);
+  entry = g.entry;
+  typed = g.typed;
   hardened = g.hardened;
   placed = g.placed;
   unreported = g.unreported;

@@ -19,6 +19,7 @@ use Rattle.double_law.specs.Law.{HasWords}
 use Rattle.double_law.specs.Runs.{blocks_seen}
 use Rattle.reached_words.specs.Reached.{NoDeadWords}
 use Rattle.layout_counts.specs.Counted.{is_load}
+use Rattle.harden_lint.specs.Rules.{WellTyped}
 use Rattle.harden_law.specs.Hardened.{IsHardened}
 use Rattle.harden_chain.specs.Image.{IsInTurns, HasNoAliases}
 use Rattle.elf_image.specs.Bounds.{Fits}
@@ -39,10 +40,12 @@ pub record HasFewStarts (text : List ℕ) (entry n : ℕ) : Type 0 where
   pub few : length list ≤ n
   pub all : (w : ℕ) → IsStart text entry w → Contains list w
 
--- The image does on every input what the program in blocks does; it is hardened, fits a file, and has at most so many words and so many
--- addresses at which a block starts.
+-- The image does on every input what the program in blocks does; its text, which begins at the entry, keeps the rules of the lint; it is
+-- hardened, fits a file, and has at most so many words and so many addresses at which a block starts.
 pub record IsImageOfBlocksWithin (mid : Mid) (image : ImageFields) (most_words most_starts : ℕ) : Type 0 where
   pub same : (input : List ℕ) → AreWords input → SameObserved (observed (boot_state image input) None) (blocks_seen mid input)
+  pub entry : image.entry ≡ 0x00400000
+  pub typed : WellTyped image.text image.entry
   pub hardened : IsHardened image
   pub placed : (input : List ℕ) → AreWords input → Placed image input
   pub unreported : (input : List ℕ) → AreWords input → Unreported image input

@@ -77,6 +77,8 @@ compiles_within source c fields mid most_words most_starts m n hardens stays lig
       program = is.program;
       is_source = is.is_source;
       hardened = law.0;
+      entry = image.entry;
+      typed = image.typed;
       words = le_trans image.words (small (few_words source c mid stays is of));
       memory = law.1;
       fits = image.fits;

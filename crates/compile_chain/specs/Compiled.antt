@@ -21,6 +21,7 @@ use Rattle.elf_image.specs.Bounds.{Fits}
 use Rattle.elf_image.specs.Held.{IsImage}
 use Rattle.compile_law.specs.Hardened.{Hardened}
 use Rattle.reached_words.specs.Reached.{NoDeadWords}
+use Rattle.harden_lint.specs.Rules.{WellTyped}
 use Rattle.harden_chain.specs.Image.{IsInTurns}
 use Rattle.layout_counts.specs.Counted.{is_load}
 use Rattle.compile_blocks.specs.Blocks.{HasFewStarts}
@@ -82,15 +83,17 @@ IsNotCompiled source (Parse error) = IsRefused source (Parse error)
 IsNotCompiled source (Check error) = IsRefused source (Check error)
 IsNotCompiled source OutOfMemory = Unit {0}
 
--- What is promised of an image of a source: it is the hardened image of the source's program, it has at most so many words and at most
--- 65,536 words of memory, and a file can hold it; it has at most as many windows as words, at most so many addresses at which a block
--- starts, and no dead word: each that neither begins a block nor is a break has a word before it; and the words of its two streams take
--- turns. Where `main` has a weight of at most 9 and calls no function with a body, at most two of its words load through the stack
--- pointers, $29 and $30.
+-- What is promised of an image of a source: it is the hardened image of the source's program; its text begins at the entry and keeps the
+-- rules of the lint; it has at most so many words and at most 65,536 words of memory, and a file can hold it; it has at most as many
+-- windows as words, at most so many addresses at which a block starts, and no dead word: each that neither begins a block nor is a break
+-- has a word before it; and the words of its two streams take turns. Where `main` has a weight of at most 9 and calls no function with a
+-- body, at most two of its words load through the stack pointers, $29 and $30.
 pub record CompilesWithin (source : List ℕ) (fields : ImageFields) (most_words most_starts : ℕ) : Type 0 where
   pub program : Program
   pub is_source : IsSource source program
   pub hardened : Hardened program fields
+  pub entry : fields.entry ≡ 0x00400000
+  pub typed : WellTyped fields.text fields.entry
   pub words : length fields.text ≤ most_words
   pub memory : fields.memory_words ≤ 65536
   pub fits : Fits fields

@@ -77,8 +77,9 @@ once t ws w = record { near = w.sound; once = λ j k h l e. same (pair_at ws j) 
 pub image_made : (s : Signed) (i : ImageFields) (starts : List ℕ) (pairs windows aliases : List (ℕ × ℕ)) (rows : List TypingRow) (t : List ℕ) → Prepared s → Guarded s.program →
     i ≡ record { entry = 0x00400000; text = t; initial = s.program.initial; memory_words = s.program.memory_words; windows = windows; aliases = aliases } →
     t ≡ text (headed s) → starts ≡ addresses (headed s) → blocks.AreAliases s pairs → AreWindows t windows → AreRows t 4194304 rows → aliases ≡ addressed starts pairs →
-    WordsAreHardened → WordsRunAs → WordsHaveWays → StartsAreBlocks → TextLength → WindowsAreFew → NoWordIsDead → PreparedHasStarts → SmoothWordsHaveNoAlias → TextTurned → TextTurnedThrough → ReloadsAreLoads → IsImageOfSigned s i
-image_made s i starts pairs windows aliases rows t p g e f st a w r al hardened runs ways at long few alive begins no_alias turn through loads = subst (IsImageOfSigned s) (sym (e ∙ whole)) made
+    WordsAreHardened → WordsRunAs → WordsHaveWays → StartsAreBlocks → TextLength → WindowsAreFew → NoWordIsDead → PreparedHasStarts → SmoothWordsHaveNoAlias → TextTurned → TextTurnedThrough → ReloadsAreLoads →
+    WordsAreTyped → IsImageOfSigned s i
+image_made s i starts pairs windows aliases rows t p g e f st a w r al hardened runs ways at long few alive begins no_alias turn through loads keeps = subst (IsImageOfSigned s) (sym (e ∙ whole)) made
   where
     whole : ◌≡◌ {A = ImageFields} (record { entry = 0x00400000; text = t; initial = s.program.initial; memory_words = s.program.memory_words; windows = windows; aliases = aliases }) (image_with s windows aliases)
     whole = ap (λ (l : List ℕ). record { entry = 0x00400000; text = l; initial = s.program.initial; memory_words = s.program.memory_words; windows = windows; aliases = aliases }) f
@@ -97,6 +98,7 @@ image_made s i starts pairs windows aliases rows t p g e f st a w r al hardened 
       runs = runs s windows aliases p;
       hardened = hardened s rows windows aliases p g (subst (λ (l : List ℕ). AreRows l 4194304 rows) f r) (subst (λ (l : List ℕ). AreWindows l windows) f w) are_aliases;
       entry = refl;
+      typed = keeps s p.laying p.signs.one_each g;
       initial = refl;
       memory = refl;
       words = long s p.laying.marks ∙ ap (λ (n : ℕ). words s.program.blocks + 7 * n) p.signs.one_each;
@@ -123,6 +125,7 @@ image_of_ordered p s i g m = record {
     placed = m.runs.placed;
     unreported = m.runs.unreported;
     entry = m.entry;
+    typed = m.typed;
     initial = m.initial ∙ g.initial;
     memory = m.memory ∙ g.memory;
     words = subst (λ (n : ℕ). n ≤ room p) (sym m.words) g.words_within;
@@ -147,6 +150,7 @@ image_of_program p q i most most_room g m = record {
   placed = m.placed;
   unreported = m.unreported;
   entry = m.entry;
+  typed = m.typed;
   initial = m.initial ∙ g.initial;
   memory = m.memory ∙ g.memory;
   words = within (length i.text) (room q) most_room m.words g.room_within;

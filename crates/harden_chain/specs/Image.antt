@@ -11,6 +11,7 @@ use Rattle.mips_isa.specs.Turns.{IsTextOf, Turned, TurnedThrough}
 use Rattle.hard_code.specs.declared.code.HardProgram.{HardProgram}
 use Rattle.hard_code.specs.Run.{item_run}
 use Rattle.hard_code.specs.Counts.{branches, reloads, room}
+use Rattle.harden_lint.specs.Rules.{WellTyped}
 use Rattle.harden_law.specs.Hardened.{IsHardened}
 use Rattle.image_fits.specs.Law.{HasStarts}
 use Rattle.reached_words.specs.Reached.{NoDeadWords}
@@ -33,14 +34,15 @@ pub record IsInTurns (text : List ℕ) : Type 0 where
   pub turned : Turned instrs
   pub turned_through : TurnedThrough instrs
 
--- An image of the program: it does the same on every input, it is hardened, its streams take turns, and it has at most so many words and
--- starts of blocks.
+-- An image of the program: it does the same on every input, its text keeps the rules of the lint, it is hardened, its streams take turns,
+-- and it has at most so many words and starts of blocks.
 pub record IsImageWithin (p : HardProgram) (i : ImageFields) (most_words most_starts : ℕ) : Type 0 where
   pub same : (input : List ℕ) → AreWords input → SameObserved (observed (boot_state i input) None) (item_run p input)
   pub hardened : IsHardened i
   pub placed : (input : List ℕ) → AreWords input → Placed i input
   pub unreported : (input : List ℕ) → AreWords input → Unreported i input
   pub entry : i.entry ≡ 0x00400000
+  pub typed : WellTyped i.text i.entry
   pub initial : i.initial ≡ p.initial
   pub memory : i.memory_words ≡ p.memory_words
   pub words : length i.text ≤ most_words

@@ -7,6 +7,7 @@ use Rattle.hard_code.specs.Counts.{Calm, Turned, TurnedThrough, branches, room}
 use Rattle.hard_code.specs.Counts.{Calm, branches, reloads, room}
 use Rattle.block_laws.specs.Runs.{SameRuns}
 use Rattle.mips_isa.specs.Image.{ImageFields}
+use Rattle.harden_lint.specs.Rules.{WellTyped}
 use Rattle.harden_law.specs.Hardened.{IsHardened}
 use Rattle.harden_law.specs.Laws.{RunsAs}
 use Rattle.image_fits.specs.Law.{HasStarts}
@@ -71,6 +72,7 @@ pub record IsImageOfSigned (s : Signed) (i : ImageFields) : Type 0 where
   pub runs : RunsAs i s
   pub hardened : IsHardened i
   pub entry : i.entry ≡ 0x00400000
+  pub typed : WellTyped i.text i.entry
   pub initial : i.initial ≡ s.program.initial
   pub memory : i.memory_words ≡ s.program.memory_words
   pub words : length i.text ≡ words s.program.blocks + 7 * length s.program.blocks

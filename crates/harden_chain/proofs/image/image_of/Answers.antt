@@ -23,3 +23,4 @@ returns c = image_made c.args.signed _ c.as_slice-2.result.now c.in_ok-pairs.pai
     (subst (λ (l : List ℕ). AreRows l 4194304 c.in_ok-windows.ensures.rows.0) c.as_slice.ensures c.in_ok-windows.ensures.rows.1)
     (c.from_vec-2.ensures ∙ (c.in_ok-aliases.ensures ∙ ap (addressed c.as_slice-2.result.now) c.as_slice-3.ensures.value))
     c.words_are_hardened.ensures c.words_run_as.ensures c.words_have_ways.ensures c.starts_are_blocks.ensures c.text_length.ensures c.windows_are_few.ensures c.no_word_is_dead.ensures c.prepared_has_starts.ensures c.smooth_words_have_no_alias.ensures c.text_turned.ensures c.text_turned_through.ensures c.reloads_are_loads.ensures
+    c.words_are_typed.ensures
