@@ -1,1 +1,0 @@
-int main(void){ out_word(5); return 0; }
