@@ -78,8 +78,8 @@ PROGRAMS = [
         "int main(void){int a = in_word(); int b = in_word(); int c = in_word(); if ((a && b) || c) out_word(1); else out_word(2); return 0;}",
         [1, 0, 1], [1], "exit 0",
     ),
-    ("an index past the end", "int a[3]; int main(void){int i = in_word(); out_word(i); return a[i];}", [3], [3], "trapped 8"),
-    ("a division by 0", "int main(void){int a = in_word(); out_word(a); return 7 / a;}", [0], [0], "trapped 7"),
+    ("an index past the end", "int a[3]; int main(void){int i = in_word(); out_word(i); return a[i];}", [3], [3], "trap 8"),
+    ("a division by 0", "int main(void){int a = in_word(); out_word(a); return 7 / a;}", [0], [0], "trap 7"),
     (
         "globals",
         "int x = 3; const int t[3] = {5, 7, 9}; void step(void){x = x * t[x % 3] + 1;} int main(void){for (int i = 0; i < 4; i++) {step();"
@@ -102,7 +102,7 @@ def run(*words):
     return done.returncode, done.stdout
 
 
-def steps_of(lines):
+def steps_of():
     """The least number of steps with which the run has ended, by halving."""
     low, high = 0, 1 << 16
     while low < high:
@@ -139,7 +139,7 @@ def compare(_count, _seed):
         status, _ = run("compile", "a.c", "a.img")
         text = run("run", "a.img", "a.in", "100000")[1]
         want = "".join(f"{word}\n" for word in words) + f"{end}\n"
-        steps = steps_of(text)
+        steps = steps_of()
         audit = run("audit", "a.img", "a.in", str(steps))
         counts = campaign(steps)
         is_wrong = status or text != want or audit[0] or counts is None or counts["silent"]

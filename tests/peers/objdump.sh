@@ -1,6 +1,6 @@
 #!/bin/sh
 # Compares one word of each instruction with what the disassembler of GNU binutils says of it. The words are those of the test
-# `words_with_different_fields` in crates/mips_isa/src/tests.rt, which reads each as the instruction that is written here in the
+# `words_with_different_fields` in crates/machine_tests/src/instructions.rt, which reads each as the instruction that is written here in the
 # manual's notation. Each word stands at 0x00400000, in big-endian order.
 set -eu
 
