@@ -4,3 +4,4 @@ pub mod Splits
 pub mod Spelled
 pub mod OneResult
 pub mod Lexed
+pub mod Total

@@ -88,6 +88,10 @@ Tokens text result = TokensFrom true first_names 0 text result
 abbrev pub HasOneResult : Type 0
 HasOneResult = (text : List ℕ) (one other : Result (List Token) LexError) → Tokens text one → Tokens text other → one ≡ other
 
+-- Each text gives a result.
+abbrev pub HasSomeResult : Type 0
+HasSomeResult = (text : List ℕ) → (result : Result (List Token) LexError) × Tokens text result
+
 -- Each token has a byte and begins where the one before it ends or later, and the last ends no later than the text.
 abbrev pub ArePlaced : ℕ → List Token → ℕ → Type 0
 ArePlaced from [] end = from ≤ end

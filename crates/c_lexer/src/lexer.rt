@@ -3,7 +3,7 @@
 ghost use Rattle.std.specs.Prelude.{◌≡◌, ◌≢◌, ◌<◌, ◌≤◌, ◌^◌, Err, IfOk, IsErrOf, Ok, length};
 ghost use Rattle.c_lexer.specs.declared.error.LexError.{LexError};
 ghost use Rattle.c_lexer.specs.Names.{Adds};
-ghost use Rattle.c_lexer.specs.Tokens.{ArePlaced, HasOneResult, Tokens};
+ghost use Rattle.c_lexer.specs.Tokens.{ArePlaced, HasOneResult, HasSomeResult, Tokens};
 
 use crate::byte::{front_of, rest_of};
 use crate::error::LexError;
@@ -64,4 +64,9 @@ fn add_piece(
 /// A text has one result, so what `tokens` gives is the only one: a law without a body.
 pub fn one_result()
     ensures { HasOneResult }
+{}
+
+/// Each text, whatever its bytes, gives tokens or a fault: a law without a body.
+pub fn each_text_has_a_result()
+    ensures { HasSomeResult }
 {}

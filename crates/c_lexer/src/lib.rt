@@ -12,5 +12,5 @@ mod spelling;
 mod token;
 
 pub use error::LexError;
-pub use lexer::{one_result, tokens};
+pub use lexer::{each_text_has_a_result, one_result, tokens};
 pub use token::{Keyword, Punct, Token, TokenKind};

@@ -1,3 +1,4 @@
 pub mod Sources
 mod Results
 mod Starts
+mod Decided

@@ -1,5 +1,5 @@
 -- Which sources are accepted, why the others are refused, and what is promised of the image of a source.
-use Rattle.std.specs.Prelude.{ℕ, ◌≡◌, ◌<◌, ◌≤◌, ◌+◌, ◌*◌, List, [], length, count_by, Some, None, Ok, Err, codes}
+use Rattle.std.specs.Prelude.{ℕ, ◌≡◌, ◌<◌, ◌≤◌, ◌+◌, ◌*◌, ◌⊎◌, List, [], length, count_by, Some, None, Ok, Err, codes}
 use Rattle.c_lexer.specs.declared.token.Token.{Token}
 use Rattle.c_lexer.specs.Tokens.{Tokens, first_names, number_of}
 use Rattle.c_tree.specs.declared.tree.Program.{Program}
@@ -74,6 +74,14 @@ IsRefused source (Lex error) = (length source ≤ longest_source) × Tokens sour
 IsRefused source (Parse error) = (length source ≤ longest_source) × ((tokens : List Token) × (Tokens source (Ok tokens) × HasNoTree tokens error))
 IsRefused source (Check error) = (length source ≤ longest_source) × ((program : Program) × (IsSource source program × IsFirstFault program error))
 IsRefused source OutOfMemory = ⊥
+
+-- Each source is accepted, or refused.
+abbrev pub AcceptedOrRefused : Type 0
+AcceptedOrRefused = (source : List ℕ) → IsAccepted source ⊎ ((refusal : Refusal) × IsRefused source refusal)
+
+-- No source is both.
+abbrev pub NeverBoth : Type 0
+NeverBoth = (source : List ℕ) (refusal : Refusal) → IsAccepted source → IsRefused source refusal → ⊥
 
 -- why a source isn't compiled: it is refused, or there was no memory
 abbrev pub IsNotCompiled : List ℕ → Refusal → Type 0

@@ -1,9 +1,19 @@
-//! A law of the definitions.
+//! Laws of the definitions.
 
-ghost use Rattle.compile_chain.specs.Compiled.{NamesAgree};
+ghost use Rattle.compile_chain.specs.Compiled.{AcceptedOrRefused, NamesAgree, NeverBoth};
 
 /// The numbers that the meaning of C takes for the names `main`, `in_word` and `out_word` are those of the lexer. The call does nothing;
 /// its contract is the law.
 pub fn names_agree()
     ensures { NamesAgree }
+{}
+
+/// Each source, whatever its bytes, is accepted or refused. The call does nothing; its contract is the law.
+pub fn accepted_or_refused()
+    ensures { AcceptedOrRefused }
+{}
+
+/// No source is both accepted and refused. The call does nothing; its contract is the law.
+pub fn never_both()
+    ensures { NeverBoth }
 {}

@@ -7,6 +7,6 @@ mod refusal;
 mod split;
 
 pub use compiler::{LONGEST_SOURCE, checked_source, compile};
-pub use laws::names_agree;
+pub use laws::{accepted_or_refused, names_agree, never_both};
 pub use refusal::Refusal;
 pub use split::compile_split;

@@ -1,0 +1,5 @@
+use Rattle.compile_chain.proofs.Decided.{accepted_or_refused}
+use Rattle.compile_chain.proofs.laws.accepted_or_refused.Goals as goal
+
+pub returns : goal.returns
+returns c = accepted_or_refused
