@@ -3,15 +3,14 @@ use Rattle.std.proofs.Common.{◌≡◌, ◌≤◌, ◌⊎◌, inl, inr, ℕ, Li
 use Rattle.std.proofs.lemmas.Bool.{cases_lt}
 use Rattle.c_lexer.specs.declared.error.LexError.{LexError}
 use Rattle.c_lexer.specs.declared.token.Token.{Token}
-use Rattle.c_lexer.specs.Tokens.{Tokens}
-use Rattle.c_lexer.proofs.Total.{some_result}
+use Rattle.c_lexer.specs.Tokens.{Tokens, HasSomeResult}
 use Rattle.c_tree.specs.declared.tree.Program.{Program}
 use Rattle.c_tree.specs.Meaning.{source_names}
 use Rattle.c_tree.specs.Sizes.{program_depth}
 use Rattle.c_parser.specs.declared.program.ParseError.TheVariants.{NoProgram}
 use Rattle.c_parser.specs.Items.{Tree}
 use Rattle.c_parser.specs.Order.{end_of}
-use Rattle.c_parser.proofs.Decided.{tree_or_none}
+use Rattle.c_parser.specs.Decided.{TreeOrNone}
 use Rattle.check_rules.specs.declared.error.CheckError.TheVariants as checker
 use Rattle.check_rules.specs.Fault.{Fault}
 use Rattle.check_rules.specs.Limits.{first_fault}
@@ -23,7 +22,7 @@ use Rattle.compile_chain.proofs.Sources.{not_both}
 abbrev Answered : List ℕ → Type 0
 Answered source = IsAccepted source ⊎ ((refusal : Refusal) × IsRefused source refusal)
 
-module _ (source : List ℕ) (short : length source ≤ longest_source) where
+module _ (trees : TreeOrNone) (source : List ℕ) (short : length source ≤ longest_source) where
   -- by the first fault of its program
   of_fault : (program : Program) → IsSource source program → (f : Option Fault) → first_fault source_names program ≡ f → Answered source
   of_fault program is None e = inl (record { short = short; program = program; is_source = is; faultless = e })
@@ -36,13 +35,13 @@ module _ (source : List ℕ) (short : length source ≤ longest_source) where
 
   -- by what its text gives
   of_text : (result : Result (List Token) LexError) → Tokens source result → Answered source
-  of_text (Ok tokens) lexed = of_tree tokens lexed (tree_or_none tokens)
+  of_text (Ok tokens) lexed = of_tree tokens lexed (trees tokens)
   of_text (Err e) lexed = inr (Lex e, (short, lexed))
 
-pub accepted_or_refused : AcceptedOrRefused
-accepted_or_refused source = elim (cases_lt longest_source (length source)) [
+pub accepted_or_refused : HasSomeResult → TreeOrNone → AcceptedOrRefused
+accepted_or_refused texts trees source = elim (cases_lt longest_source (length source)) [
   | inl long ↦ inr (TooLong, long)
-  | inr short ↦ (let r = some_result source in of_text source short r.0 r.1)
+  | inr short ↦ (let r : (result : Result (List Token) LexError) × Tokens source result = texts source in of_text trees source short r.0 r.1)
 ]
 
 pub never_both : NeverBoth

@@ -2,6 +2,9 @@
 
 ghost use Rattle.compile_chain.specs.Compiled.{AcceptedOrRefused, NamesAgree, NeverBoth};
 
+use c_lexer::each_text_has_a_result;
+use c_parser::tree_or_none;
+
 /// The numbers that the meaning of C takes for the names `main`, `in_word` and `out_word` are those of the lexer. The call does nothing;
 /// its contract is the law.
 pub fn names_agree()
@@ -11,7 +14,10 @@ pub fn names_agree()
 /// Each source, whatever its bytes, is accepted or refused. The call does nothing; its contract is the law.
 pub fn accepted_or_refused()
     ensures { AcceptedOrRefused }
-{}
+{
+    each_text_has_a_result();
+    tree_or_none();
+}
 
 /// No source is both accepted and refused. The call does nothing; its contract is the law.
 pub fn never_both()
