@@ -1,6 +1,6 @@
 //! Texts and their tokens, against a table.
 
-use c_lexer::{one_result, tokens};
+use c_lexer::{each_text_has_a_result, one_result, tokens};
 use std::fmt::Write;
 use std::test::Fail;
 
@@ -189,5 +189,6 @@ fn tokens_are_those_of_the_table(rt: HostRuntime) -> Result<(), Fail> {
     }
     assert_eq!(rt; rows, 138);
     one_result();
+    each_text_has_a_result();
     Ok(())
 }

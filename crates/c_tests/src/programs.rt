@@ -1,7 +1,7 @@
 //! Texts, and where they are no program, against a table.
 
 use c_lexer::tokens;
-use c_parser::{in_order, one_tree, parse};
+use c_parser::{in_order, one_tree, parse, tree_or_none};
 use std::fmt::Write;
 use std::test::Fail;
 
@@ -133,6 +133,7 @@ fn programs_are_those_of_the_table(rt: HostRuntime) -> Result<(), Fail> {
     }
     assert_eq!(rt; rows, 99);
     one_tree();
+    tree_or_none();
     Ok(())
 }
 

@@ -1,6 +1,6 @@
 //! What no clause says: that the tool does its work with ample memory, and the very texts that it prints.
 
-use compile_chain::names_agree;
+use compile_chain::{accepted_or_refused, names_agree, never_both};
 use elf_image::{Aliases, Image, Windows, fits, write_image};
 use hard_shelf::{MemoryShelf, MemorySink};
 use hard_words::Words;
@@ -51,6 +51,8 @@ fn compiles_and_runs_the_first_text(rt: HostRuntime) -> Result<(), Fail> {
         check(&rt, &mut shelf, line, 0, printed)?;
     }
     names_agree();
+    accepted_or_refused();
+    never_both();
     Ok(())
 }
 
