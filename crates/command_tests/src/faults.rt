@@ -4,6 +4,7 @@
 use crate::calls::check;
 use crate::images::{PLAIN, laid};
 use hard_shelf::MemoryShelf;
+use std::fmt::Write;
 use std::process::Abort;
 use std::test::Fail;
 
@@ -118,14 +119,15 @@ fn diverts_a_call(rt: HostRuntime) -> Result<(), Fail> {
     Ok(())
 }
 
-// `if ((a && b) || c)`: step 56 is the branch of the block of a, whose successors are the blocks of b and of c. The block of what is chosen
-// else, at 0x004001e0, is neither, and no alias: its head reports within nine steps, the branch counted.
+const CHOICE: &[u8] =
+    b"int main(void){int a = in_word(); int b = in_word(); int c = in_word(); if ((a && b) || c) out_word(1); else out_word(2); return 0;}";
+
+// Step 56 is the branch of the block of a, whose successors are the blocks of b and of c. The block of what is chosen else, at 0x004001e0, is
+// neither, and no alias: its head reports within nine steps, the branch counted.
 #[test]
 fn diverts_a_branch(rt: HostRuntime) -> Result<(), Fail> {
-    let source: &[u8] =
-        b"int main(void){int a = in_word(); int b = in_word(); int c = in_word(); if ((a && b) || c) out_word(1); else out_word(2); return 0;}";
-    let mut shelf = filled(&rt, source, b"0 0 0")?;
-    let rows: [(&str, &[u8], &[u8]); 8] = [
+    let mut shelf = filled(&rt, CHOICE, b"0 0 0")?;
+    let rows: [(&str, &[u8], &[u8]); 4] = [
         (
             "fault a.img in 65 f",
             b"divert 56 0x004001e0",
@@ -139,26 +141,6 @@ fn diverts_a_branch(rt: HostRuntime) -> Result<(), Fail> {
         ),
         (
             "fault a.img in 1000 f",
-            b"divert 12 0x00400000",
-            b"reported cfcss at 0x00400018\n",
-        ),
-        (
-            "fault a.img in 1000 f",
-            b"divert 18 0x00400000",
-            b"reported cfcss at 0x00400018\n",
-        ),
-        (
-            "fault a.img in 1000 f",
-            b"divert 24 0x00400000",
-            b"reported cfcss at 0x00400018\n",
-        ),
-        (
-            "fault a.img in 1000 f",
-            b"divert 80 0x00400000",
-            b"reported cfcss at 0x00400018\n",
-        ),
-        (
-            "fault a.img in 1000 f",
             b"divert 56 0x0040019c",
             b"1\nexit 0\n",
         ),
@@ -166,6 +148,64 @@ fn diverts_a_branch(rt: HostRuntime) -> Result<(), Fail> {
     for (line, fault, printed) in rows {
         shelf.hold("f", fault)?;
         check(&rt, &mut shelf, line, 0, printed)?;
+    }
+    Ok(())
+}
+
+// Each step of the run that is a branch or a jump, those of heads and checks too, led to the first word.
+#[test]
+fn diverts_every_branch(rt: HostRuntime) -> Result<(), Fail> {
+    let mut shelf = filled(&rt, CHOICE, b"0 0 0")?;
+    let steps = [
+        4, 12, 18, 22, 24, 54, 56, 62, 66, 68, 74, 80, 83, 89, 93, 99, 107, 109, 115, 117,
+    ];
+    for step in steps {
+        let mut fault = String::new(rt.alloc());
+        write!(fault, "divert {step} 0x00400000")?;
+        // Step 82 puts out the word.
+        let lines: &[u8] = if step < 82 {
+            b"reported cfcss at 0x00400018\n"
+        } else {
+            b"2\nreported cfcss at 0x00400018\n"
+        };
+        prints(&rt, &mut shelf, fault.as_bytes(), lines)?;
+    }
+    Ok(())
+}
+
+// The product of the masters is in LO from step 41 on, where it is moved; that of the shadows from step 45 on. The check of the two is
+// before the break at 0x00400108.
+#[test]
+fn changes_a_product(rt: HostRuntime) -> Result<(), Fail> {
+    let source: &[u8] = b"int main(void){int a = in_word(); out_word(a * a); return 0;}";
+    let mut shelf = filled(&rt, source, b"7")?;
+    let rows: [(&[u8], &[u8]); 6] = [
+        (b"set 40 lo 77", b"49\nexit 0\n"),
+        (b"set 41 lo 77", b"reported eddi at 0x00400108\n"),
+        (b"set 42 lo 77", b"49\nexit 0\n"),
+        (b"set 45 lo -77", b"reported eddi at 0x00400108\n"),
+        (b"set 41 hi 77", b"49\nexit 0\n"),
+        (b"set 45 hi 0x4d", b"49\nexit 0\n"),
+    ];
+    for (fault, printed) in rows {
+        prints(&rt, &mut shelf, fault, printed)?;
+    }
+    Ok(())
+}
+
+// Steps 148 and 172 load an element of each array through $4; step 1733 does so behind the first word that is put out.
+#[test]
+fn flips_a_base(rt: HostRuntime) -> Result<(), Fail> {
+    let source: &[u8] =
+        b"int taps[16] = {1,2,3,4,5,6,7,8,8,7,6,5,4,3,2,1}; int line[16]; int main(void){int n = in_word(); for (int k = 0; k < n; k++) { line[k & 15] = in_word(); int sum = 0; for (int j = 0; j < 16; j++) sum += taps[j] * line[(k - j) & 15]; out_word(sum); } return 0;}";
+    let mut shelf = filled(&rt, source, b"3 10 20 30")?;
+    let rows: [(&[u8], &[u8]); 3] = [
+        (b"flip 148 4 0", b"exception AdEL at 0x004002c0\n"),
+        (b"flip 172 4 0", b"exception AdEL at 0x00400328\n"),
+        (b"flip 1733 4 0", b"10\nexception AdEL at 0x004002c0\n"),
+    ];
+    for (fault, printed) in rows {
+        prints(&rt, &mut shelf, fault, printed)?;
     }
     Ok(())
 }

@@ -172,6 +172,40 @@ fn refuses_bad_windows(rt: HostRuntime) -> Result<(), Fail> {
     )
 }
 
+// The file of a compiled image: 66 words of text and 14 windows from byte 8192 on, so the table of sections is at byte 8356.
+#[test]
+fn refuses_changed_compiled_files(rt: HostRuntime) -> Result<(), Fail> {
+    let mut shelf = MemoryShelf::new(rt.alloc());
+    shelf.hold("a.c", b"int main(void){return 0;}")?;
+    check(&rt, &mut shelf, "compile a.c a.img", 0, b"compiled\n")?;
+    let Some(held) = shelf.held("a.img") else {
+        panic!(rt; "no image is put");
+    };
+    let mut file = Vec::from_slice(rt.alloc(), held)?;
+    let rows: [(usize, u8, &[u8]); 4] = [
+        (19, 3, b"image refused: not MIPS\n"),
+        // The second window is the first again, and a section of windows that is eight bytes longer.
+        (8203, 0x5c, b"image refused: section 3\n"),
+        (8499, 0x78, b"image refused: section 3\n"),
+        (107, 0, b"image refused: segment 1\n"),
+    ];
+    for (at, value, line) in rows {
+        refuses(&rt, &changed(rt.alloc(), &file, at, value)?, line)?;
+    }
+    file.push(0)?;
+    refuses(
+        &rt,
+        &file,
+        b"image refused: trailing bytes, need 8596 have 8597\n",
+    )?;
+    file.truncate(8595);
+    refuses(
+        &rt,
+        &file,
+        b"image refused: truncated, need 8596 have 8595\n",
+    )
+}
+
 // Parts of a file that are not looked at: the bytes between them.
 #[test]
 fn takes_any_bytes_between_the_parts(rt: HostRuntime) -> Result<(), Fail> {

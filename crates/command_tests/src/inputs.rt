@@ -29,3 +29,22 @@ fn refuses_the_first_word_that_is_no_number(rt: HostRuntime) -> Result<(), Fail>
     }
     Ok(())
 }
+
+// A word behind a million numbers is too many.
+#[test]
+fn takes_a_million_numbers(rt: HostRuntime) -> Result<(), Fail> {
+    let mut shelf = MemoryShelf::new(rt.alloc());
+    shelf.hold("a.img", &laid(rt.alloc(), &PLAIN, &[])?)?;
+    let mut text = Vec::new(rt.alloc());
+    for _ in 0..1_000_001 {
+        text.extend_from_slice(b"1 ")?;
+    }
+    shelf.hold("in", &text)?;
+    check(
+        &rt,
+        &mut shelf,
+        "run a.img in 8",
+        6,
+        b"input refused: too many numbers\n",
+    )
+}

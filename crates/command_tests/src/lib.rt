@@ -8,6 +8,8 @@ mod audits;
 #[cfg(test)]
 mod calls;
 #[cfg(test)]
+mod campaigns;
+#[cfg(test)]
 mod compiled;
 #[cfg(test)]
 mod faults;
@@ -15,8 +17,6 @@ mod faults;
 mod images;
 #[cfg(test)]
 mod inputs;
-#[cfg(test)]
-mod lists;
 #[cfg(test)]
 mod made;
 #[cfg(test)]

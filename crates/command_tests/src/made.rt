@@ -3,6 +3,7 @@
 use crate::calls::{check, check_none, printed};
 use hard_shelf::MemoryShelf;
 use program_maker::make;
+use std::fmt::Write;
 use std::test::Fail;
 
 // The program of the number 1 with one function.
@@ -98,5 +99,20 @@ fn tells_of_the_run(rt: HostRuntime) -> Result<(), Fail> {
         assert!(rt; right, "{told}");
     }
     assert!(rt; shelf.held("self.img") == shelf.held("one.img"));
+    Ok(())
+}
+
+#[test]
+fn runs_many_functions_the_same_twice(rt: HostRuntime) -> Result<(), Fail> {
+    let mut shelf = MemoryShelf::new(rt.alloc());
+    let source = make(rt.alloc(), 5, 300)?;
+    let mut begin = String::new(rt.alloc());
+    write!(begin, "source {}\noutputs 300\nsum ", source.len())?;
+    let first = printed(&rt, &mut shelf, "selfrun 5 300 10000000")?;
+    let second = printed(&rt, &mut shelf, "selfrun 5 300 10000000")?;
+    let right = first.as_slice() == second.as_slice()
+        && first.starts_with(begin.as_bytes())
+        && first.ends_with(b"\nexit 0\n");
+    assert!(rt; right);
     Ok(())
 }

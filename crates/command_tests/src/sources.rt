@@ -214,7 +214,7 @@ fn refused(
     Ok(lines)
 }
 
-// Parentheses around the 0 that is returned, and ones that nothing closes.
+// Parentheses around the 0 that is returned.
 #[test]
 fn bounds_the_depth_of_parentheses(rt: HostRuntime) -> Result<(), Fail> {
     let mut shelf = MemoryShelf::new(rt.alloc());
@@ -228,9 +228,17 @@ fn bounds_the_depth_of_parentheses(rt: HostRuntime) -> Result<(), Fail> {
     let more = repeated(&rt, &begin, b")", 254, b";}")?;
     shelf.hold("a.c", &more)?;
     assert!(rt; refused(&rt, &mut shelf)?.starts_with(b"source refused: NoProgram at "));
+    Ok(())
+}
+
+// Parentheses that nothing closes: the parser goes no deeper than the greatest depth.
+#[test]
+fn refuses_open_parentheses(rt: HostRuntime) -> Result<(), Fail> {
+    let mut shelf = MemoryShelf::new(rt.alloc());
     let open = repeated(&rt, b"int main(void){return", b"(", 600_000, b"")?;
     shelf.hold("a.c", &open)?;
-    assert!(rt; refused(&rt, &mut shelf)?.starts_with(b"source refused: NoProgram at "));
+    let lines = crate::calls::told(&rt, &mut shelf, "compile a.c a.img", 3)?;
+    assert!(rt; lines.starts_with(b"source refused: NoProgram at "));
     Ok(())
 }
 

@@ -1,4 +1,4 @@
-//! What is listed of a compiled program beside what is audited.
+//! Campaigns of flips over compiled programs, and what is listed of them beside what is audited.
 
 use crate::calls::{check, printed};
 use hard_shelf::MemoryShelf;
@@ -27,6 +27,15 @@ fn numbers(rt: &impl AllocGlobal, text: &[u8]) -> Result<Vec<u64>, Fail> {
     Ok(all)
 }
 
+// The sum of the numbers in a text.
+fn total(rt: &impl AllocGlobal, text: &[u8]) -> Result<u64, Fail> {
+    let mut sum: u64 = 0;
+    for number in numbers(rt, text)?.as_slice() {
+        sum = sum.saturating_add(*number);
+    }
+    Ok(sum)
+}
+
 // The image of a source, and an input.
 fn filled(
     rt: &(impl AllocGlobal + Abort),
@@ -38,6 +47,32 @@ fn filled(
     shelf.hold("in", input)?;
     check(rt, &mut shelf, "compile a.c a.img", 0, b"compiled\n")?;
     Ok(shelf)
+}
+
+// Checks that the flips of fifty steps, one of each of thirty-one registers, are counted once each, and that none is silent.
+fn counts_fifty_steps(
+    rt: &(impl AllocGlobal + Abort),
+    shelf: &mut MemoryShelf,
+    line: &str,
+) -> Result<(), Fail> {
+    let lines = printed(rt, shelf, line)?;
+    let right = lines.starts_with(b"same ")
+        && lines.ends_with(b"\nsilent 0\n")
+        && total(rt, &lines)? == 1550;
+    assert!(rt; right);
+    Ok(())
+}
+
+#[test]
+fn counts_flips_of_an_output(rt: HostRuntime) -> Result<(), Fail> {
+    let mut shelf = filled(&rt, b"int main(void){out_word(5); return 0;}", b"")?;
+    counts_fifty_steps(&rt, &mut shelf, "campaign a.img in 100 0 50")
+}
+
+#[test]
+fn counts_flips_of_loops(rt: HostRuntime) -> Result<(), Fail> {
+    let mut shelf = filled(&rt, TAPS, b"3 10 20 30")?;
+    counts_fifty_steps(&rt, &mut shelf, "campaign a.img in 2000 0 50")
 }
 
 // What a run prints that makes so many steps.
