@@ -1,6 +1,9 @@
 //! Files byte by byte: the first words of one, each refusal, and what is read back.
 
-use elf_image::{Aliases, Image, ImageError, Windows, fits, read_image, write_image};
+use elf_image::{
+    Aliases, Image, ImageError, Windows, fits, image_or_refused, one_image, read_image,
+    write_image, written_is_image,
+};
 use hard_words::{OutOfMemory, Words};
 use std::alloc::Global;
 use std::test::Fail;
@@ -182,6 +185,9 @@ fn reads_back_what_was_written(rt: HostRuntime) -> Result<(), Fail> {
             == Some(ImageError::BadSection { index });
         assert!(rt; refused, "at {at}");
     }
+    written_is_image();
+    one_image();
+    image_or_refused();
     Ok(())
 }
 
