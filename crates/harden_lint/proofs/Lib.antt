@@ -16,3 +16,4 @@ pub mod RuleTests
 pub mod Exact
 pub mod MaskBits
 pub mod Insides
+pub mod Verdict

@@ -8,3 +8,4 @@ pub mod RuleTests
 pub mod StartTable
 pub mod Outcome
 pub mod Masks
+pub mod Verdict

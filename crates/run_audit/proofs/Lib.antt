@@ -2,3 +2,4 @@ pub mod StartBits
 pub mod Stands
 pub mod CleanRun
 pub mod Answers
+pub mod Decided

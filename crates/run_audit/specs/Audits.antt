@@ -1,12 +1,12 @@
 -- What the audit of an image tells of its clean run, the run without a change on some words of input: where it stands at a state
 -- that is not placed, where it reports, or how long it goes on; and what holds of a run that passes. The notions are the
 -- project's own; the lint, the windows, and what it means that a fault is unseen or told are those of the crates below.
-use Rattle.std.specs.Prelude.{◌≡◌, ◌≢◌, ◌≤◌, ◌<◌, ℕ, ◌+◌, Some, None, List, length, Result, Err}
+use Rattle.std.specs.Prelude.{◌≡◌, ◌≢◌, ◌≤◌, ◌<◌, ℕ, ◌+◌, ◌⊎◌, Some, None, List, length, Result, Err}
 use Rattle.hard_words.specs.declared.SetPlace.{SetPlace}
 use Rattle.mips_isa.specs.declared.instr.End.TheVariants.{Reported}
 use Rattle.mips_isa.specs.Machine.{State}
 use Rattle.mips_isa.specs.Image.{ImageFields}
-use Rattle.mips_isa.specs.Text.{Near}
+use Rattle.mips_isa.specs.Text.{IsText, Near}
 use Rattle.mips_isa.specs.Faults.{image_run, IsSet, IsDetected, IsPlaced, PlacedFor, UnreportedFor}
 use Rattle.harden_lint.specs.Rules.{WellTyped, BadAt}
 use Rattle.harden_lint.specs.Theorems.{IsFree, FlipShown}
@@ -55,6 +55,11 @@ IsRefused i input steps (errors.Lint address rule) = BadAt i.text i.entry addres
 IsRefused i input steps (errors.Misplaced step at) = Misplaces i input steps step at
 IsRefused i input steps (errors.Reports step) = Reports i input steps step
 IsRefused i input steps errors.OutOfMemory = ⊥
+
+-- Each run passes or is refused.
+abbrev pub PassesOrRefused : Type 0
+PassesOrRefused = (i : ImageFields) (input : List ℕ) (steps : ℕ) → IsText i.text →
+    ((made : ℕ) × Passes i input steps made) ⊎ ((error : AuditError) × IsRefused i input steps error)
 
 -- No run passes and is refused.
 abbrev pub NeverBoth : Type 0

@@ -1,8 +1,19 @@
-//! What holds of audits. The call does nothing; its contract is the law.
+//! What holds of audits. Each call does nothing; its contract is the law.
 
-ghost use Rattle.run_audit.specs.Audits.{NeverBoth};
+ghost use Rattle.run_audit.specs.Audits.{NeverBoth, PassesOrRefused};
+
+use harden_lint::keeps_or_breaks;
+use mips_isa::end_stays;
 
 /// No run passes and is refused.
 pub fn never_both()
     ensures { NeverBoth }
 {}
+
+/// Each run, of an image whose text has at most 66,060,288 words, passes or is refused.
+pub fn passes_or_refused()
+    ensures { PassesOrRefused }
+{
+    end_stays();
+    keeps_or_breaks();
+}

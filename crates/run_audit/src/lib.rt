@@ -15,4 +15,4 @@ mod turns;
 pub use auditing::audit;
 pub use count::window_count;
 pub use error::AuditError;
-pub use laws::never_both;
+pub use laws::{never_both, passes_or_refused};
