@@ -1,7 +1,7 @@
 //! What a well typed text promises of its runs under one fault, and where its windows are. Each call does nothing; its contract
 //! is the law.
 ghost use Rattle.harden_lint.specs.Theorems.{Shows, ShowsWithin, ShowsFlip, ShowsFlipWithin, WindowsInside};
-ghost use Rattle.harden_lint.specs.Verdict.{KeepsOrBreaks};
+ghost use Rattle.harden_lint.specs.Verdict.{TypedOrBad};
 
 /// Of a well typed text whose run is placed and does not report in its first steps: a word put in any place that is no window is
 /// unseen or told within these steps.
@@ -29,7 +29,7 @@ pub fn windows_inside()
     ensures { WindowsInside }
 {}
 
-/// Each text of at most 66,060,288 words keeps the ten rules or has a lowest address at which one is broken, and none both.
-pub fn keeps_or_breaks()
-    ensures { KeepsOrBreaks }
+/// Of each text of at most 66,060,288 words there are typing rows, or a lowest address at which a rule is broken, and never both.
+pub fn typed_or_bad()
+    ensures { TypedOrBad }
 {}

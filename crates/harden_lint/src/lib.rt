@@ -18,9 +18,7 @@ mod starts;
 mod table;
 
 pub use error::LintError;
-pub use laws::{
-    keeps_or_breaks, shows, shows_flip, shows_flip_within, shows_within, windows_inside,
-};
+pub use laws::{shows, shows_flip, shows_flip_within, shows_within, typed_or_bad, windows_inside};
 pub use pairs::window_mask;
 pub use pass::lint;
 use std::marker::Model;

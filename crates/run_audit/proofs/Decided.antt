@@ -9,7 +9,7 @@ use Rattle.mips_isa.specs.RunLaws.{EndStays}
 use Rattle.lint_words.specs.Words.{made}
 use Rattle.harden_lint.specs.Rules.{WellTyped}
 use Rattle.harden_lint.specs.StartTable.{Below, marked, marked_if}
-use Rattle.harden_lint.specs.Verdict.{IsBad, KeepsOrBreaks}
+use Rattle.harden_lint.specs.Verdict.{IsTyped, IsBad, TypedOrBad}
 use Rattle.run_audit.specs.declared.error.AuditError.{AuditError}
 use Rattle.run_audit.specs.declared.error.AuditError.TheVariants as errors
 use Rattle.run_audit.specs.declared.turns.Turn.{Turn}
@@ -83,10 +83,10 @@ module _ (law : EndStays) (i : ImageFields) (input : List ℕ) (steps : ℕ) (bi
   answer_of : WellTyped i.text i.entry → Bits i.text (IsStart i.text i.entry) bits → Answer
   answer_of typed starts = last (come (record { typed = typed; starts = starts; is = refl; passed = none_passed i input }) steps (self steps))
 
-by_lint : EndStays → (i : ImageFields) (input : List ℕ) (steps : ℕ) → WellTyped i.text i.entry ⊎ IsBad i.text i.entry →
+by_lint : EndStays → (i : ImageFields) (input : List ℕ) (steps : ℕ) → IsTyped i.text i.entry ⊎ IsBad i.text i.entry →
     ((made : ℕ) × Passes i input steps made) ⊎ ((error : AuditError) × IsRefused i input steps error)
-by_lint law i input steps (inl typed) = let t : (bits : List Bool) × Bits i.text (IsStart i.text i.entry) bits = bits_of i.text i.entry in answer_of law i input steps t.0 typed t.1
+by_lint law i input steps (inl typed) = let t : (bits : List Bool) × Bits i.text (IsStart i.text i.entry) bits = bits_of i.text i.entry in answer_of law i input steps t.0 typed.1.rules t.1
 by_lint law i input steps (inr bad) = inr (errors.Lint bad.0 bad.1.0, bad.1.1)
 
-pub passes_or_refused : EndStays → KeepsOrBreaks → PassesOrRefused
+pub passes_or_refused : EndStays → TypedOrBad → PassesOrRefused
 passes_or_refused law lint i input steps small = by_lint law i input steps (lint.one i.text i.entry small)

@@ -2,7 +2,7 @@
 
 ghost use Rattle.run_audit.specs.Audits.{NeverBoth, PassesOrRefused};
 
-use harden_lint::keeps_or_breaks;
+use harden_lint::typed_or_bad;
 use mips_isa::end_stays;
 
 /// No run passes and is refused.
@@ -15,5 +15,5 @@ pub fn passes_or_refused()
     ensures { PassesOrRefused }
 {
     end_stays();
-    keeps_or_breaks();
+    typed_or_bad();
 }
