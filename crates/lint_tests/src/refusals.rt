@@ -1,7 +1,7 @@
 //! Texts that break a rule, against a table.
 
 use crate::texts::{FIVE, INPUT, JUMP};
-use harden_lint::{LintError, lint};
+use harden_lint::{LintError, lint, typed_or_bad};
 use std::test::Fail;
 
 const ENTRY: u32 = 0x0040_0000;
@@ -114,5 +114,6 @@ fn refuses_at_the_lowest_address(rt: HostRuntime) -> Result<(), Fail> {
             == Some(LintError::BadAt { address, rule });
         assert!(rt; refused, "{address:x} {rule}");
     }
+    typed_or_bad();
     Ok(())
 }

@@ -5,6 +5,7 @@ use elf_image::{Aliases, Image, Windows, fits, write_image};
 use hard_shelf::{MemoryShelf, MemorySink};
 use hard_words::Words;
 use hardcc_core::run_tool;
+use run_audit::passes_or_refused;
 use std::alloc::Global;
 use std::test::Fail;
 
@@ -53,6 +54,7 @@ fn compiles_and_runs_the_first_text(rt: HostRuntime) -> Result<(), Fail> {
     names_agree();
     accepted_or_refused();
     never_both();
+    passes_or_refused();
     Ok(())
 }
 
