@@ -1,6 +1,6 @@
 -- The bits of the masks of guarded registers and of windows.
 use Rattle.std.proofs.Common.{◌≡◌, ℕ, ◌+◌, ◌-◌, ◌*◌, ◌^◌, ◌≤◌, ◌<◌, arith, rules, ap, refl, sym, ◌∙◌, subst, List, [], ◌∷◌, ◌++◌, length, get_or, false, true, Bool, cond, inl, inr, max}
-use Rattle.std.specs.Prelude.{Option, Some, None, ◌⊎◌, ◌==◌, ◌||◌, ◌&&◌, ◌↔◌, nat_le, bit_or}
+use Rattle.std.specs.Prelude.{Option, Some, None, ◌⊎◌, ◌==◌, ◌||◌, ◌&&◌, ◌↔◌, nat_le, bit_or, not}
 use Rattle.std.specs.Int.{bit_at}
 use Rattle.std.proofs.lemmas.Nat.Bits.{bit_at_or, bit_at-pow_same, bit_at-pow_other, bit_at-zero}
 use Rattle.std.proofs.lemmas.Grind.{common_steps}
@@ -13,13 +13,14 @@ use Rattle.harden_lint.specs.Rows.{AreRows, Produces}
 use Rattle.harden_lint.specs.Typing.{Role, master, shadow, signs, role_of, Of, CheckAt}
 use Rattle.harden_lint.proofs.Places.{no_truth}
 use Rattle.harden_lint.specs.StartTable.{Table}
+use Rattle.lint_words.specs.Windows.{check_at, window_by, window, awaits, service_near, near}
+use Rattle.harden_lint.specs.StreamTests.{streams_by, guarded_from, guarded, product_by, products}
+use Rattle.harden_lint.specs.RuleTests.{product_at}
+use Rattle.mips_isa.specs.declared.instr.Instr.{Instr}
 use Rattle.mips_isa.specs.Text.{instr_at}
-use Rattle.lint_words.specs.declared.windows.ChecksBefore.{ChecksBefore}
-use Rattle.lint_words.specs.Windows.{check_at, window_by, window, awaits, near, serving, compares, compared_before}
-use Rattle.harden_lint.specs.StreamTests.{streams_by, guarded_from, guarded, any_check, products}
-use Rattle.lint_words.specs.Around.{leads, reads_by}
-use Rattle.harden_lint.specs.Masks.{AreChecks, IsMask, IsGuardedMask, RowFor, RowsTo}
-use Rattle.harden_lint.proofs.Around.{and_parts, or_parts, or_first, or_second, same_number}
+use Rattle.lint_words.specs.Around.{starts_at, near_before, far_before, leads}
+use Rattle.harden_lint.specs.Masks.{IsMask, IsGuardedMask, stream_of, RowFor, RowsTo}
+use Rattle.harden_lint.proofs.Around.{and_parts, and_both, or_parts, or_first, or_second, same_number, number_same}
 use Rattle.harden_lint.proofs.Windows.{streams_is, one_of_four, guarded_is, is_guarded, products_is, is_products}
 
 no_role : (X : Role) → None ≡ Some X → ⊥
@@ -72,24 +73,8 @@ from_small text bits r c a h =
 pub guarded_small : (text : List ℕ) (bits : List Bool) (a r : ℕ) → guarded text bits a r ≡ true → r < 32
 guarded_small text bits a r h = let k : (c : ℕ) × (guarded_from text bits r c a ≡ true) = one_of_four (λ (c : ℕ). guarded_from text bits r c a) a h in from_small text bits r k.0 a k.1
 
--- without a check no register is guarded
-pub four_or : (f g : ℕ → Bool) (a : ℕ) → ((c : ℕ) → f c ≡ true → g c ≡ true) → (f (a - 4) || (f (a - 8) || (f (a - 12) || f (a - 16)))) ≡ true → (g (a - 4) || (g (a - 8) || (g (a - 12) || g (a - 16)))) ≡ true
-four_or f g a h k = elim (or_parts (f (a - 4)) (f (a - 8) || (f (a - 12) || f (a - 16))) k) as (λ z. (g (a - 4) || (g (a - 8) || (g (a - 12) || g (a - 16)))) ≡ true) [
-  | inl m ↦ or_first (g (a - 4)) (g (a - 8) || (g (a - 12) || g (a - 16))) (h (a - 4) m)
-  | inr m ↦ or_second (g (a - 4)) (g (a - 8) || (g (a - 12) || g (a - 16))) (elim (or_parts (f (a - 8)) (f (a - 12) || f (a - 16)) m) as (λ z. (g (a - 8) || (g (a - 12) || g (a - 16))) ≡ true) [
-    | inl m ↦ or_first (g (a - 8)) (g (a - 12) || g (a - 16)) (h (a - 8) m)
-    | inr m ↦ or_second (g (a - 8)) (g (a - 12) || g (a - 16)) (elim (or_parts (f (a - 12)) (f (a - 16)) m) as (λ z. (g (a - 12) || g (a - 16)) ≡ true) [ inl m ↦ or_first (g (a - 12)) (g (a - 16)) (h (a - 12) m) | inr m ↦ or_second (g (a - 12)) (g (a - 16)) (h (a - 16) m) ])
-  ])
-]
-
-pub unchecked : (text : List ℕ) (bits : List Bool) (a r : ℕ) → any_check text a ≡ false → guarded text bits a r ≡ true → ⊥
-unchecked text bits a r n h = no_truth (sym n ∙ four_or (λ (c : ℕ). guarded_from text bits r c a) (λ (c : ℕ). streams_by (check_at text c)) a (λ c k. (and_parts (streams_by (check_at text c)) (window text r c a && leads text bits r c a) k).0) h)
-
 clash : (x : ℕ) → x ≡ 0 → x ≡ 1 → ⊥
 clash x h k = omega arith
-
-pub no_mask : (text : List ℕ) (bits : List Bool) (a : ℕ) → any_check text a ≡ false → IsGuardedMask text bits a 0
-no_mask text bits a n r = ((λ h. absurd (clash (bit_at 0 r) (bit_at-zero r) h)), (λ h. absurd (unchecked text bits a r n h)))
 
 -- the mask of the registers below r
 abbrev pub MaskTo : (ℕ → Bool) → (r mask : ℕ) → Type 0
@@ -144,51 +129,117 @@ mask_without f r mask n m q = (
   (λ h. elim (next_or q r h.0) as (λ z. bit_at mask q ≡ 1) [ inl l ↦ (m q).1 (l, h.1) | inr l ↦ absurd (no_truth (sym n ∙ subst (λ (x : ℕ). f x ≡ true) l h.1)) ]),
 )
 
-pub whole_mask : (f : ℕ → Bool) (r mask : ℕ) → r ≡ 32 → MaskTo f r mask → IsMask f mask
-whole_mask f r mask e m = subst (λ (n : ℕ). MaskTo f n mask) e m
+-- the mask of one register, where a test holds; of none; of those that one of two tests names
+pub own_mask : (r mask : ℕ) (holds : Bool) → holds ≡ true → r < 32 → mask ≡ 2 ^ r → IsMask (λ q. (q == r) && holds) mask
+own_mask r mask holds h l e q = (
+  (λ b. let w : q ≡ r = own_bit r q (subst (λ (x : ℕ). bit_at x q ≡ 1) e b) in (subst (λ (x : ℕ). x < 32) (sym w) l, and_both (q == r) holds (number_same q r w) h)),
+  (λ k. let w : q ≡ r = same_number q r (and_parts (q == r) holds k.1).0 in subst (λ (x : ℕ). bit_at x q ≡ 1) (sym e) (subst (λ (x : ℕ). bit_at (2 ^ r) x ≡ 1) (sym w) (bit_at-pow_same r))),
+)
+
+pub empty_mask : (f : ℕ → Bool) → ((q : ℕ) → q < 32 → f q ≡ true → ⊥) → IsMask f 0
+empty_mask f n q = ((λ b. absurd (clash (bit_at 0 q) (bit_at-zero q) b)), (λ k. absurd (n q k.0 k.1)))
+
+pub or_masks : (f g : ℕ → Bool) (m n : ℕ) → IsMask f m → IsMask g n → IsMask (λ q. f q || g q) (bit_or m n)
+or_masks f g m n h k q =
+    let e : bit_at (bit_or m n) q ≡ max (bit_at m q) (bit_at n q) = bit_at_or m n q in (
+      (λ b. elim (max_is (bit_at m q) (bit_at n q) (low m q) (low n q) (sym e ∙ b)) as (λ z. (q < 32) × ((f q || g q) ≡ true)) [
+        | inl l ↦ let w : (q < 32) × (f q ≡ true) = (h q).0 l in (w.0, or_first (f q) (g q) w.1)
+        | inr l ↦ let w : (q < 32) × (g q ≡ true) = (k q).0 l in (w.0, or_second (f q) (g q) w.1)
+      ]),
+      (λ p. elim (or_parts (f q) (g q) p.1) as (λ z. bit_at (bit_or m n) q ≡ 1) [
+        | inl l ↦ e ∙ max_left (bit_at m q) (bit_at n q) ((h q).1 (p.0, l)) (low n q)
+        | inr l ↦ e ∙ max_right (bit_at m q) (bit_at n q) ((k q).1 (p.0, l)) (low m q)
+      ]),
+    )
+
+pub four_masks : (f : ℕ → ℕ → Bool) (a m n p s : ℕ) → IsMask (λ q. f q (a - 4)) m → IsMask (λ q. f q (a - 8)) n → IsMask (λ q. f q (a - 12)) p → IsMask (λ q. f q (a - 16)) s →
+    IsMask (λ q. f q (a - 4) || (f q (a - 8) || (f q (a - 12) || f q (a - 16)))) (bit_or m (bit_or n (bit_or p s)))
+four_masks f a m n p s h k l i =
+    or_masks (λ q. f q (a - 4)) (λ q. f q (a - 8) || (f q (a - 12) || f q (a - 16))) m (bit_or n (bit_or p s)) h
+    (or_masks (λ q. f q (a - 8)) (λ q. f q (a - 12) || f q (a - 16)) n (bit_or p s) k (or_masks (λ q. f q (a - 12)) (λ q. f q (a - 16)) p s l i))
+
+-- the mask of a test that names two registers at most
+pub two_masks : (f : ℕ → Bool) (x y m n : ℕ) → ((q : ℕ) → f q ≡ true → ((q == x) || (q == y)) ≡ true) → IsMask (λ q. (q == x) && f x) m → IsMask (λ q. (q == y) && f y) n → IsMask f (bit_or m n)
+two_masks f x y m n h k l q =
+    let one : IsMask (λ q. ((q == x) && f x) || ((q == y) && f y)) (bit_or m n) = or_masks (λ q. (q == x) && f x) (λ q. (q == y) && f y) m n k l in (
+      (λ b. let w : (q < 32) × ((((q == x) && f x) || ((q == y) && f y)) ≡ true) = (one q).0 b in (w.0, named x y w.1)),
+      (λ p. (one q).1 (p.0, names p.1 (or_parts (q == x) (q == y) (h q p.1)))),
+    )
+  where
+    holds_at : (r : ℕ) → ((q == r) && f r) ≡ true → f q ≡ true
+    holds_at r e = let p : ((q == r) ≡ true) × (f r ≡ true) = and_parts (q == r) (f r) e in subst (λ (v : ℕ). f v ≡ true) (sym (same_number q r p.0)) p.1
+    named : (x y : ℕ) → (((q == x) && f x) || ((q == y) && f y)) ≡ true → f q ≡ true
+    named x y e = elim (or_parts ((q == x) && f x) ((q == y) && f y) e) as (λ z. f q ≡ true) [ inl d ↦ holds_at x d | inr d ↦ holds_at y d ]
+    at_own : (r : ℕ) → f q ≡ true → (q == r) ≡ true → ((q == r) && f r) ≡ true
+    at_own r e d = and_both (q == r) (f r) d (subst (λ (v : ℕ). f v ≡ true) (same_number q r d) e)
+    names : f q ≡ true → ((q == x) ≡ true) ⊎ ((q == y) ≡ true) → (((q == x) && f x) || ((q == y) && f y)) ≡ true
+    names e (inl d) = or_first ((q == x) && f x) ((q == y) && f y) (at_own x e d)
+    names e (inr d) = or_second ((q == x) && f x) ((q == y) && f y) (at_own y e d)
+
+-- a register that has a window by a check, or is guarded by it, is one of the two that it compares
+window_names : (text : List ℕ) (o : Option (ℕ × ℕ)) (q c a x y : ℕ) → o ≡ Some (x, y) → window_by text o q c a ≡ true → ((q == x) || (q == y)) ≡ true
+window_names text o q c a x y e h = (and_parts ((q == x) || (q == y)) (nat_le (c + 4) a && awaits text q c a) (subst (λ (v : Option (ℕ × ℕ)). window_by text v q c a ≡ true) e h)).0
+
+unnamed : (text : List ℕ) (o : Option (ℕ × ℕ)) (q c a : ℕ) → o ≡ None → window_by text o q c a ≡ true → ⊥
+unnamed text o q c a e h = no_truth (subst (λ (v : Option (ℕ × ℕ)). window_by text v q c a ≡ true) e h)
+
+pub window_of_check : (text : List ℕ) (c a x y m n : ℕ) → check_at text c ≡ Some (x, y) → IsMask (λ q. (q == x) && window text x c a) m → IsMask (λ q. (q == y) && window text y c a) n → IsMask (λ r. window text r c a) (bit_or m n)
+window_of_check text c a x y m n e h k = two_masks (λ r. window text r c a) x y m n (λ q w. window_names text (check_at text c) q c a x y e w) h k
+
+pub window_of_none : (text : List ℕ) (c a : ℕ) → check_at text c ≡ None → IsMask (λ r. window text r c a) 0
+window_of_none text c a e = empty_mask (λ r. window text r c a) (λ q l w. unnamed text (check_at text c) q c a e w)
+
+pub near_mask : (text : List ℕ) (a m n p s v : ℕ) → IsMask (λ q. window text q (a - 4) a) m → IsMask (λ q. window text q (a - 8) a) n → IsMask (λ q. window text q (a - 12) a) p → IsMask (λ q. window text q (a - 16) a) s →
+    IsMask (λ q. (q == 2) && service_near text a) v → IsMask (λ q. near text a q) (bit_or (bit_or m (bit_or n (bit_or p s))) v)
+near_mask text a m n p s v h k l i j =
+    or_masks (λ q. window text q (a - 4) a || (window text q (a - 8) a || (window text q (a - 12) a || window text q (a - 16) a))) (λ q. (q == 2) && service_near text a) (bit_or m (bit_or n (bit_or p s))) v
+    (four_masks (λ q c. window text q c a) a m n p s h k l i) j
+
+by_window : (text : List ℕ) (bits : List Bool) (r c a : ℕ) → guarded_from text bits r c a ≡ true → window text r c a ≡ true
+by_window text bits r c a h = (and_parts (window text r c a) (leads text bits r c a) (and_parts (streams_by (check_at text c)) (window text r c a && leads text bits r c a) h).1).0
+
+pub guarded_of_check : (text : List ℕ) (bits : List Bool) (c a x y m n : ℕ) → check_at text c ≡ Some (x, y) → IsMask (λ q. (q == x) && guarded_from text bits x c a) m → IsMask (λ q. (q == y) && guarded_from text bits y c a) n → IsMask (λ r. guarded_from text bits r c a) (bit_or m n)
+guarded_of_check text bits c a x y m n e h k = two_masks (λ r. guarded_from text bits r c a) x y m n (λ q w. window_names text (check_at text c) q c a x y e (by_window text bits q c a w)) h k
+
+pub guarded_of_none : (text : List ℕ) (bits : List Bool) (c a : ℕ) → check_at text c ≡ None → IsMask (λ r. guarded_from text bits r c a) 0
+guarded_of_none text bits c a e = empty_mask (λ r. guarded_from text bits r c a) (λ q l w. unnamed text (check_at text c) q c a e (by_window text bits q c a w))
 
 pub guarded_mask_of : (text : List ℕ) (bits : List Bool) (a mask : ℕ) → IsMask (λ r. guarded text bits a r) mask → IsGuardedMask text bits a mask
 guarded_mask_of text bits a mask m q = ((λ h. ((m q).0 h).1), (λ h. (m q).1 (guarded_small text bits a q h, h)))
 
--- a guarded register is compared by one of the four checks before, and so is one that has a window, but for register 2
-window_compares : (text : List ℕ) (o : Option (ℕ × ℕ)) (r c a : ℕ) → window_by text o r c a ≡ true → compares o r ≡ true
-window_compares text None r c a h = absurd (no_truth h)
-window_compares text (Some p) r c a h = (and_parts ((r == p.0) || (r == p.1)) (nat_le (c + 4) a && awaits text r c a) h).0
+-- where neither of the two words before is a product, HI and LO come from no stream
+no_product : (o : Option Instr) (X : Role) → product_at o ≡ false → product_by o X ≡ false
+no_product None X h = refl
+no_product (Some i) X h = rw h refl
 
-pub guarded_compared : (text : List ℕ) (bits : List Bool) (a r : ℕ) → guarded text bits a r ≡ true → compared_before text a r ≡ true
-guarded_compared text bits a r h = four_or (λ (c : ℕ). guarded_from text bits r c a) (λ (c : ℕ). compares (check_at text c) r) a (λ c k. window_compares text (check_at text c) r c a
-    (and_parts (window text r c a) (leads text bits r c a) (and_parts (streams_by (check_at text c)) (window text r c a && leads text bits r c a) k).1).0) h
+neither : (s n f x y : Bool) → x ≡ false → y ≡ false → (not s && ((n || f) && ((not n || x) && (not f || y)))) ≡ false
+neither true n f x y h k = refl
+neither false true f x y h k = rw h refl
+neither false false true x y h k = rw k refl
+neither false false false x y h k = refl
 
-near_compared : (text : List ℕ) (a r : ℕ) → near text a r ≡ true → (compared_before text a r || (r == 2)) ≡ true
-near_compared text a r h = elim (or_parts (window text r (a - 4) a || (window text r (a - 8) a || (window text r (a - 12) a || window text r (a - 16) a))) ((r == 2) && (serving (instr_at text a) || (serving (instr_at text (a - 4)) && reads_by (instr_at text a) 2))) h) as (λ z. (compared_before text a r || (r == 2)) ≡ true) [
-  | inl k ↦ or_first (compared_before text a r) (r == 2) (four_or (λ (c : ℕ). window text r c a) (λ (c : ℕ). compares (check_at text c) r) a (λ c m. window_compares text (check_at text c) r c a m) k)
-  | inr k ↦ or_second (compared_before text a r) (r == 2) (and_parts (r == 2) (serving (instr_at text a) || (serving (instr_at text (a - 4)) && reads_by (instr_at text a) 2)) k).0
-]
+unproduced : (text : List ℕ) (bits : List Bool) (X : Role) (a : ℕ) → product_at (instr_at text (a - 4)) ≡ false → product_at (instr_at text (a - 8)) ≡ false → products text bits X a ≡ false
+unproduced text bits X a h k = neither (starts_at bits a) (near_before text a) (far_before text a) (product_by (instr_at text (a - 4)) X) (product_by (instr_at text (a - 8)) X) (no_product (instr_at text (a - 4)) X h) (no_product (instr_at text (a - 8)) X k)
 
-pub not_near : (text : List ℕ) (a r : ℕ) (x : Bool) → x ≡ compared_before text a r → x ≡ false → (r ≡ 2 → ⊥) → false ≡ near text a r
-not_near text a r x e n two = off (near text a r) (λ k. elim (or_parts (compared_before text a r) (r == 2) (near_compared text a r k)) as (λ z. ⊥) [ inl m ↦ no_truth (sym n ∙ (e ∙ m)) | inr m ↦ two (same_number r 2 m) ])
-  where
-    off : (z : Bool) → (z ≡ true → ⊥) → false ≡ z
-    off false k = refl
-    off true k = absurd (k refl)
+pub first_stream : (x y : Bool) → x ≡ true → Master ≡ stream_of x y
+first_stream x y e = sym (ap (λ (z : Bool). stream_of z y) e)
 
-pub same_checks : (text : List ℕ) (a r : ℕ) (k : ChecksBefore) → AreChecks text a k → (compares k.first r || (compares k.second r || (compares k.third r || compares k.fourth r))) ≡ compared_before text a r
-same_checks text a r k h = rw (h.first, h.second, h.third, h.fourth) refl
+pub second_stream : (x y : Bool) → x ≡ false → y ≡ true → Shadow ≡ stream_of x y
+second_stream x y e f = sym (ap (λ (z : Bool). stream_of z y) e ∙ ap (λ (z : Bool). stream_of false z) f)
 
--- a test that holds only where another does is false where that is
-pub not_where : (f : ℕ → Bool) (r : ℕ) (x y : Bool) → (f r ≡ true → y ≡ true) → x ≡ y → x ≡ false → false ≡ f r
-not_where f r x y h e n = off (f r) (λ k. no_truth (sym n ∙ (e ∙ h k)))
-  where
-    off : (z : Bool) → (z ≡ true → ⊥) → false ≡ z
-    off false k = refl
-    off true k = absurd (k refl)
+pub no_stream : (x y : Bool) → x ≡ false → y ≡ false → Nobody ≡ stream_of x y
+no_stream x y e f = sym (ap (λ (z : Bool). stream_of z y) e ∙ ap (λ (z : Bool). stream_of false z) f)
+
+or_false : (x y : Bool) → (x || y) ≡ false → (x ≡ false) × (y ≡ false)
+or_false true y h = absurd (no_truth (sym h))
+or_false false y h = (refl, h)
+
+pub no_producer : (text : List ℕ) (bits : List Bool) (a : ℕ) → (product_at (instr_at text (a - 4)) || product_at (instr_at text (a - 8))) ≡ false → Nobody ≡ stream_of (products text bits master a) (products text bits shadow a)
+no_producer text bits a h =
+    let k : (product_at (instr_at text (a - 4)) ≡ false) × (product_at (instr_at text (a - 8)) ≡ false) = or_false (product_at (instr_at text (a - 4))) (product_at (instr_at text (a - 8))) h in
+    no_stream (products text bits master a) (products text bits shadow a) (unproduced text bits master a k.0 k.1) (unproduced text bits shadow a k.0 k.1)
 
 -- the row of a word
-abbrev pub stream_of : Bool → Bool → Stream
-stream_of true s = Master
-stream_of false true = Shadow
-stream_of false false = Nobody
-
 produces_by : (text : List ℕ) (entry : ℕ) (bits : List Bool) (out : Option ℕ) (fits : IsText text) (t : Table text (IsStart text entry) bits out) (a : ℕ) → InText text a → (x y : Bool) → products text bits master a ≡ x → products text bits shadow a ≡ y → Produces text entry a (stream_of x y)
 produces_by text entry bits out fits t a i true y e f = products_is text entry bits out fits t master a i e
 produces_by text entry bits out fits t a i false true e f = products_is text entry bits out fits t shadow a i f

@@ -13,11 +13,11 @@ use Rattle.harden_lint.specs.Rows.{master_mask, shadow_mask, signs_mask}
 use Rattle.harden_lint.specs.RuleTests.{first_rule}
 use Rattle.harden_lint.specs.StreamTests.{guarded, products}
 use Rattle.harden_lint.specs.StartTable.{Table, Below, marked, marked_if, left_out, left_if}
-use Rattle.harden_lint.specs.Masks.{RowsTo}
+use Rattle.harden_lint.specs.Masks.{RowsTo, stream_of}
 use Rattle.harden_lint.specs.Outcome.{CleanTo, IsFirst, Decided, end_of, outcome}
 use Rattle.harden_lint.specs.Verdict.{IsTyped, IsBad, TypedOrBad}
 use Rattle.harden_lint.proofs.StartTable.{first_table, turn_table, last_table}
-use Rattle.harden_lint.proofs.MaskBits.{MaskTo, first_mask, mask_with, mask_without, guarded_mask_of, stream_of, row_for, no_rows, more_rows, all_rows}
+use Rattle.harden_lint.proofs.MaskBits.{MaskTo, first_mask, mask_with, mask_without, guarded_mask_of, row_for, no_rows, more_rows, all_rows}
 use Rattle.harden_lint.proofs.Exact.{word_in, clean_none, clean_more, bad_here, decided, of_obeys}
 
 -- a table of some addresses

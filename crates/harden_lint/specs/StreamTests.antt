@@ -26,11 +26,7 @@ abbrev pub streams_by : Option (ℕ × ℕ) → Bool
 streams_by None = false
 streams_by (Some p) = two_streams p.0 p.1
 
--- A check of the two streams stands among the four words before.
-abbrev pub any_check : List ℕ → ℕ → Bool
-any_check text a = streams_by (check_at text (a - 4)) ||
-    (streams_by (check_at text (a - 8)) || (streams_by (check_at text (a - 12)) || streams_by (check_at text (a - 16))))
-
+-- The check at c guards a register at a word.
 abbrev pub guarded_from : List ℕ → List Bool → (r c a : ℕ) → Bool
 guarded_from text bits r c a = streams_by (check_at text c) && (window text r c a && leads text bits r c a)
 

@@ -42,7 +42,8 @@ pub(crate) fn streams_by(pair: Option<(u8, u8)>) -> bool
     }
 }
 
-fn guarded_from(text: &WordTable, bits: &[bool], r: u8, c: u32, a: u32) -> bool
+/// Whether the check at c guards a register at a word.
+pub(crate) fn guarded_from(text: &WordTable, bits: &[bool], r: u8, c: u32, a: u32) -> bool
     requires low { 64 ≤ a }
     requires high { a < 4294967288 }
     requires check { c ≤ 4294967264 }

@@ -4,7 +4,7 @@ ghost use Rattle.mips_isa.specs.Table.{IsInRange};
 ghost use Rattle.mips_isa.specs.Faults.{in_even, in_odd};
 ghost use Rattle.harden_lint.specs.Typing.{master, shadow, signs, role_of};
 ghost use Rattle.harden_lint.specs.StreamTests.{fits_role, product_pair, product_by, products};
-ghost use Rattle.harden_lint.specs.RuleTests.{goal_of, is_branch, first_next, second_next, is_instr, keeps_pair, of_stream, one_stream, half_of, half_kept, rule_2, rule_3, operand_kept, operands_kept, rule_4, loaded, clear_of, load_kept, is_half, moves_before, moves_twice, product_at, rule_5, inside_by, rule_6, held, signs_pair, uses_signs, rule_8, rule_9, choosing, rule_10, first_rule};
+ghost use Rattle.harden_lint.specs.RuleTests.{goal_of, is_branch, first_next, second_next, is_instr, keeps_pair, one_stream, half_of, half_kept, rule_2, rule_3, operand_kept, operands_kept, rule_4, loaded, clear_of, load_kept, is_half, moves_before, moves_twice, product_at, rule_5, inside_by, rule_6, held, signs_pair, uses_signs, rule_8, rule_9, choosing, rule_10, first_rule};
 
 use crate::roles::{guarded, of_master, of_shadow, of_signs, streams_by};
 use lint_words::{
@@ -174,37 +174,20 @@ fn keeps_signs(p: (u8, u8)) -> bool
     (p.0 == 0 || (p.0 == 2 || of_signs(p.0))) && (p.1 == 0 || (p.1 == 2 || of_signs(p.1)))
 }
 
-fn of_stream_master(instr: Option<Instr>) -> bool
-    ensures { result ≡ of_stream instr master }
-{
-    match instr {
-        None => true,
-        Some(i) => keeps_master(writes_pair(&i)) && keeps_master(reads_pair(&i)),
-    }
-}
-
-fn of_stream_shadow(instr: Option<Instr>) -> bool
-    ensures { result ≡ of_stream instr shadow }
-{
-    match instr {
-        None => true,
-        Some(i) => keeps_shadow(writes_pair(&i)) && keeps_shadow(reads_pair(&i)),
-    }
-}
-
-fn of_stream_signs(instr: Option<Instr>) -> bool
-    ensures { result ≡ of_stream instr signs }
-{
-    match instr {
-        None => true,
-        Some(i) => keeps_signs(writes_pair(&i)) && keeps_signs(reads_pair(&i)),
-    }
-}
-
+// Whether what an instruction writes and what it reads is of one stream.
 fn one_stream(instr: Option<Instr>) -> bool
     ensures { result ≡ one_stream instr }
 {
-    of_stream_master(instr) || (of_stream_shadow(instr) || of_stream_signs(instr))
+    match instr {
+        None => true,
+        Some(i) => {
+            let writes = writes_pair(&i);
+            let reads = reads_pair(&i);
+            (keeps_master(writes) && keeps_master(reads))
+                || ((keeps_shadow(writes) && keeps_shadow(reads))
+                    || (keeps_signs(writes) && keeps_signs(reads)))
+        }
+    }
 }
 
 fn half_of(instr: Option<Instr>) -> Option<u8>
@@ -342,7 +325,8 @@ fn moves_twice(text: &WordTable, bits: &[bool], a: u32) -> bool
             || (far_before(text, a) && moves_before(text, bits, a - 8)))
 }
 
-fn product_at(instr: Option<Instr>) -> bool
+/// Whether an instruction is a multiplication or a division.
+pub(crate) fn product_at(instr: Option<Instr>) -> bool
     ensures { result ≡ product_at instr }
 {
     match instr {

@@ -1,63 +1,34 @@
 //! The rows of a text.
-ghost use Rattle.std.specs.Prelude.{◌≡◌, ◌≤◌, ◌<◌, ◌^◌, length, IfOk};
-ghost use Rattle.mips_isa.specs.Text.{IsText, InText};
-ghost use Rattle.harden_lint.specs.Masks.{AreChecks, IsGuardedMask, RowFor, RowsTo};
-ghost use Rattle.harden_lint.specs.StreamTests.{any_check, guarded};
+ghost use Rattle.std.specs.Prelude.{◌≡◌, ◌≤◌, ◌<◌, ◌-◌, ◌||◌, length, IfOk};
+ghost use Rattle.mips_isa.specs.Text.{IsText, InText, instr_at};
+ghost use Rattle.harden_lint.specs.Masks.{IsMask, IsGuardedMask, stream_of, RowFor, RowsTo};
+ghost use Rattle.harden_lint.specs.Typing.{master, shadow};
+ghost use Rattle.harden_lint.specs.StreamTests.{guarded_from, products};
+ghost use Rattle.harden_lint.specs.RuleTests.{product_at};
 
-use crate::roles::{guarded, streams_by};
-use crate::rules::{master_products, shadow_products};
+use crate::pairs::bit_if;
+use crate::roles::guarded_from;
+use crate::rules::{master_products, product_at, shadow_products};
 use crate::{Stream, TypingRow};
 use hard_words::OutOfMemory;
-use lint_words::{ChecksBefore, TEXT_START, WordTable, check_at, compares_one, find_checks};
+use lint_words::{TEXT_START, WordTable, check_at, instr_at};
 use std::alloc::Global;
 
-// Whether a check of the two streams stands among the four words before.
-fn any_check(text: &WordTable, a: u32) -> bool
+// The registers that the check at c guards at a word.
+fn mask_from(text: &WordTable, bits: &[bool], c: u32, a: u32) -> u32
     requires low { 64 ≤ a }
-    requires high { a ≤ 4294967264 }
-    ensures { result ≡ any_check text.now a }
+    requires high { a < 4294967288 }
+    requires check { c ≤ 4294967264 }
+    ensures { IsMask (λ r. guarded_from text.now bits.now r c a) result }
 {
-    streams_by(check_at(text, a - 4))
-        || (streams_by(check_at(text, a - 8))
-            || (streams_by(check_at(text, a - 12)) || streams_by(check_at(text, a - 16))))
-}
-
-/// The mask of one register.
-pub(crate) fn bit(r: u8) -> u32
-    requires { r < 32 }
-    ensures { result ≡ 2 ^ r }
-{
-    1 << r
-}
-
-// Whether a register is guarded at a word, asked only of one that a check before compares.
-fn guarded_by(text: &WordTable, bits: &[bool], a: u32, checks: &ChecksBefore, r: u8) -> bool
-    requires low { 64 ≤ a }
-    requires high { a ≤ 4294967264 }
-    requires checks { AreChecks text.now a checks.now }
-    ensures { result ≡ guarded text.now bits.now a r }
-{
-    if compares_one(checks, r) {
-        guarded(text, bits, a, r)
-    } else {
-        false
-    }
-}
-
-// The registers that are guarded at a word behind a check.
-fn mask_behind(text: &WordTable, bits: &[bool], a: u32) -> u32
-    requires low { 64 ≤ a }
-    requires high { a ≤ 4294967264 }
-    ensures { IsGuardedMask text.now bits.now a result }
-{
-    let checks = find_checks(text, a);
-    let mut mask: u32 = 0;
-    for r in 0..32u8 {
-        if guarded_by(text, bits, a, &checks, r) {
-            mask |= bit(r);
+    match check_at(text, c) {
+        None => 0,
+        Some((x, y)) => {
+            let left = bit_if(x, guarded_from(text, bits, x, c, a));
+            let right = bit_if(y, guarded_from(text, bits, y, c, a));
+            left | right
         }
     }
-    mask
 }
 
 // The registers that are guarded at a word.
@@ -66,10 +37,46 @@ fn guarded_mask(text: &WordTable, bits: &[bool], a: u32) -> u32
     requires high { a ≤ 4294967264 }
     ensures { IsGuardedMask text.now bits.now a result }
 {
-    if any_check(text, a) {
-        mask_behind(text, bits, a)
+    let first = mask_from(text, bits, a - 4, a);
+    let second = mask_from(text, bits, a - 8, a);
+    let third = mask_from(text, bits, a - 12, a);
+    let fourth = mask_from(text, bits, a - 16, a);
+    first | (second | (third | fourth))
+}
+
+// Whether one of the two words before is a product.
+fn after_product(text: &WordTable, a: u32) -> bool
+    requires { 8 ≤ a }
+    ensures { result ≡ (product_at (instr_at text.now (a - 4)) || product_at (instr_at text.now (a - 8))) }
+{
+    product_at(instr_at(text, a - 4)) || product_at(instr_at(text, a - 8))
+}
+
+// The stream that HI and LO come from at a word after a product.
+fn producer_by(text: &WordTable, bits: &[bool], a: u32) -> Stream
+    requires low { 64 ≤ a }
+    requires high { a ≤ 4294967264 }
+    ensures { result ≡ stream_of (products text.now bits.now master a) (products text.now bits.now shadow a) }
+{
+    if master_products(text, bits, a) {
+        Stream::Master
+    } else if shadow_products(text, bits, a) {
+        Stream::Shadow
     } else {
-        0
+        Stream::Nobody
+    }
+}
+
+// The stream that HI and LO come from at a word.
+fn producer(text: &WordTable, bits: &[bool], a: u32) -> Stream
+    requires low { 64 ≤ a }
+    requires high { a ≤ 4294967264 }
+    ensures { result ≡ stream_of (products text.now bits.now master a) (products text.now bits.now shadow a) }
+{
+    if after_product(text, a) {
+        producer_by(text, bits, a)
+    } else {
+        Stream::Nobody
     }
 }
 
@@ -81,13 +88,7 @@ fn row_at(text: &WordTable, bits: &[bool], a: u32) -> TypingRow
     ensures { RowFor text.now bits.now a result }
 {
     let guarded = guarded_mask(text, bits, a);
-    let products = if master_products(text, bits, a) {
-        Stream::Master
-    } else if shadow_products(text, bits, a) {
-        Stream::Shadow
-    } else {
-        Stream::Nobody
-    };
+    let products = producer(text, bits, a);
     TypingRow {
         master: 2684370928,
         shadow: 1124057088,

@@ -36,8 +36,11 @@ abbrev pub is_one : Option ℕ → Bool
 is_one None = false
 is_one (Some code) = code == 1
 
+abbrev pub compared_by : (x y imm : ℕ) → Option ℕ → Option (ℕ × ℕ)
+compared_by x y imm code = if (imm == 2) && (is_one code && (not (x == y) && (not (x == 0) && not (y == 0)))) then Some (x, y) else None
+
 abbrev pub compared : Option Instr → Option ℕ → Option (ℕ × ℕ)
-compared (Some (Beq x y imm)) code = if (imm == 2) && (is_one code && (not (x == y) && (not (x == 0) && not (y == 0)))) then Some (x, y) else None
+compared (Some (Beq x y imm)) code = compared_by x y imm code
 compared _ code = None
 
 abbrev pub check_at : List ℕ → ℕ → Option (ℕ × ℕ)
@@ -51,34 +54,15 @@ window_by text (Some p) r c a = ((r == p.0) || (r == p.1)) && (nat_le (c + 4) a 
 abbrev pub window : List ℕ → (r c a : ℕ) → Bool
 window text r c a = window_by text (check_at text c) r c a
 
--- A pair is a window of the text.
+-- A pair is a window of the text: by a check, or register 2 by a service.
 abbrev pub serving : Option Instr → Bool
 serving (Some Syscall) = true
 serving _ = false
 
+abbrev pub service_near : List ℕ → ℕ → Bool
+service_near text a = serving (instr_at text a) || (serving (instr_at text (a - 4)) && reads_by (instr_at text a) 2)
+
 abbrev pub near : List ℕ → (a r : ℕ) → Bool
 near text a r =
     (window text r (a - 4) a || (window text r (a - 8) a || (window text r (a - 12) a || window text r (a - 16) a))) ||
-    ((r == 2) && (serving (instr_at text a) || (serving (instr_at text (a - 4)) && reads_by (instr_at text a) 2)))
-
--- A window may stand at a word: a check among the four words before, or a syscall there or before.
-abbrev pub is_pair : Option (ℕ × ℕ) → Bool
-is_pair None = false
-is_pair (Some p) = true
-
-abbrev pub checks_before : List ℕ → ℕ → Bool
-checks_before text a = is_pair (check_at text (a - 4)) ||
-    (is_pair (check_at text (a - 8)) || (is_pair (check_at text (a - 12)) || is_pair (check_at text (a - 16))))
-
-abbrev pub may_near : List ℕ → ℕ → Bool
-may_near text a = checks_before text a || (serving (instr_at text a) || serving (instr_at text (a - 4)))
-
--- A register is one of those that a check compares; that one of the four checks before a word compares.
-abbrev pub compares : Option (ℕ × ℕ) → ℕ → Bool
-compares None r = false
-compares (Some p) r = (r == p.0) || (r == p.1)
-
-abbrev pub compared_before : List ℕ → (a r : ℕ) → Bool
-compared_before text a r =
-    compares (check_at text (a - 4)) r ||
-    (compares (check_at text (a - 8)) r || (compares (check_at text (a - 12)) r || compares (check_at text (a - 16)) r))
+    ((r == 2) && service_near text a)

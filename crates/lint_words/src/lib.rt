@@ -17,7 +17,5 @@ pub use around::{
 };
 pub use forms::{exit_at, form_behind, head_at, in_form, in_head, input_at, is_nop, output_at};
 pub use table::WordTable;
-pub use windows::{
-    ChecksBefore, check_at, compares_one, critical, find_checks, may_near, near, serving, window,
-};
+pub use windows::{check_at, critical, service_near, serving, window};
 pub use words::{TEXT_START, branch_goal, code_of, in_words, instr_at, jump_goal, made, skipped};

@@ -2,7 +2,7 @@
 ghost use Rattle.std.specs.Prelude.{◌≡◌, ◌<◌, ◌^◌, IfSome};
 ghost use Rattle.mips_isa.specs.Table.{IsInRange};
 ghost use Rattle.mips_isa.specs.Text.{instr_at, branch_goal, jump_goal};
-ghost use Rattle.lint_words.specs.Words.{code_of, offset_of, skips_by, skipped, fork_starts, starts_of, made, in_words};
+ghost use Rattle.lint_words.specs.Words.{code_of, offset_of, skipped, fork_starts, starts_of, made, in_words};
 
 use crate::table::WordTable;
 use mips_isa::Instr;
@@ -47,22 +47,15 @@ fn offset_of(instr: Option<Instr>) -> Option<u16>
     }
 }
 
-// The code of the break that a branch of this offset skips.
-fn skips_by(offset: Option<u16>, code: Option<u32>) -> Option<u32>
-    ensures { result ≡ skips_by offset code }
-{
-    match offset {
-        None => None,
-        Some(imm) => { if imm == 2 { code } else { None } }
-    }
-}
-
 /// The code of the break that the branch at an address skips.
 pub fn skipped(text: &WordTable, a: u32) -> Option<u32>
     requires { a < 4294967288 }
     ensures { result ≡ skipped text.now a }
 {
-    skips_by(offset_of(instr_at(text, a)), code_of(instr_at(text, a + 8)))
+    match offset_of(instr_at(text, a)) {
+        None => None,
+        Some(imm) => { if imm == 2 { code_of(instr_at(text, a + 8)) } else { None } }
+    }
 }
 
 /// Where a jump at an address leads.
