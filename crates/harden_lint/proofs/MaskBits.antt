@@ -168,10 +168,13 @@ two_masks f x y m n h k l q =
   where
     holds_at : (r : ℕ) → ((q == r) && f r) ≡ true → f q ≡ true
     holds_at r e = let p : ((q == r) ≡ true) × (f r ≡ true) = and_parts (q == r) (f r) e in subst (λ (v : ℕ). f v ≡ true) (sym (same_number q r p.0)) p.1
+
     named : (x y : ℕ) → (((q == x) && f x) || ((q == y) && f y)) ≡ true → f q ≡ true
     named x y e = elim (or_parts ((q == x) && f x) ((q == y) && f y) e) as (λ z. f q ≡ true) [ inl d ↦ holds_at x d | inr d ↦ holds_at y d ]
+
     at_own : (r : ℕ) → f q ≡ true → (q == r) ≡ true → ((q == r) && f r) ≡ true
     at_own r e d = and_both (q == r) (f r) d (subst (λ (v : ℕ). f v ≡ true) (same_number q r d) e)
+
     names : f q ≡ true → ((q == x) ≡ true) ⊎ ((q == y) ≡ true) → (((q == x) && f x) || ((q == y) && f y)) ≡ true
     names e (inl d) = or_first ((q == x) && f x) ((q == y) && f y) (at_own x e d)
     names e (inr d) = or_second ((q == x) && f x) ((q == y) && f y) (at_own y e d)

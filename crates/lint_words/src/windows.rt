@@ -125,6 +125,5 @@ pub fn service_near(text: &WordTable, a: u32) -> bool
     requires { 4 ≤ a }
     ensures { result ≡ service_near text.now a }
 {
-    serving(instr_at(text, a))
-        || (serving(instr_at(text, a - 4)) && reads_by(instr_at(text, a), 2))
+    serving(instr_at(text, a)) || (serving(instr_at(text, a - 4)) && reads_by(instr_at(text, a), 2))
 }

@@ -54,7 +54,13 @@ pub fn skipped(text: &WordTable, a: u32) -> Option<u32>
 {
     match offset_of(instr_at(text, a)) {
         None => None,
-        Some(imm) => { if imm == 2 { code_of(instr_at(text, a + 8)) } else { None } }
+        Some(imm) => {
+            if imm == 2 {
+                code_of(instr_at(text, a + 8))
+            } else {
+                None
+            }
+        }
     }
 }
 
