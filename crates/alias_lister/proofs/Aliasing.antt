@@ -6,10 +6,10 @@ use Rattle.std.specs.Int.Bits.{xor_assoc}
 use Rattle.std.proofs.lemmas.Nat.{xor_comm}
 use Rattle.std.proofs.lemmas.List.{get_or_default}
 use Rattle.std.proofs.lemmas.Bool.{cases_Bool}
-use Rattle.mips_isa.specs.Blocks.{Head, carried}
-use Rattle.hard_code.specs.declared.code.Mark.{Mark}
-use Rattle.hard_code.specs.declared.code.HardBlock.{HardBlock}
-use Rattle.hard_code.specs.declared.code.Signed.{Signed}
+use Rattle.mips_text.specs.Blocks.{Head, carried}
+use Rattle.hard_items.specs.declared.code.Mark.{Mark}
+use Rattle.hard_items.specs.declared.code.HardBlock.{HardBlock}
+use Rattle.hard_items.specs.declared.code.Signed.{Signed}
 use Rattle.sign_law.specs.Graph.{IsSucc, HasTwo, Linked}
 use Rattle.sign_law.specs.Signs.{IsReached, joined, led, entered, head_at}
 use Rattle.sign_law.specs.Marks.{successors_of, head_of, HasSigns}

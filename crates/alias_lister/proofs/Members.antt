@@ -5,7 +5,7 @@ use Rattle.std.specs.List.{All, Contains}
 use Rattle.std.proofs.lemmas.Bool.{cases_eq, cases_Bool, ne_eqb}
 use Rattle.std.proofs.lemmas.List.{get_or-set_same, get_or-set_other, get_or-replicate, length-replicate, append-nil, append_assoc}
 use Rattle.std.proofs.lemmas.List.Elements.{All-weaker, All-contains_itself}
-use Rattle.hard_code.specs.declared.code.Mark.{Mark}
+use Rattle.hard_items.specs.declared.code.Mark.{Mark}
 use Rattle.alias_lister.specs.Listing.{has, base, members, grouped, mark_at}
 
 pub no_true : true ≡ false → ⊥

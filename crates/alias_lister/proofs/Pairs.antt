@@ -6,8 +6,8 @@ use Rattle.std.proofs.lemmas.Bool.{cases_Bool}
 use Rattle.std.proofs.lemmas.List.{append_assoc, drop_more, get_or_read}
 use Rattle.std.proofs.lemmas.Nat.{xor_of_16}
 use Rattle.std.proofs.lemmas.List.Elements.{All-get_or, All-weaker, All-contains_itself, All-contains, Contains-append_left, Contains-append_right, Contains-append_cases}
-use Rattle.hard_code.specs.declared.code.Mark.{Mark}
-use Rattle.hard_code.specs.declared.code.HardBlock.{HardBlock}
+use Rattle.hard_items.specs.declared.code.Mark.{Mark}
+use Rattle.hard_items.specs.declared.code.HardBlock.{HardBlock}
 use Rattle.alias_lister.specs.Aliases.{Before, pair_at}
 use Rattle.alias_lister.specs.Listing.{has, leaves, members, paired, mark_at, listed}
 use Rattle.alias_lister.proofs.Members.{no_true, no_some, contains_head, contains_tail, contains_cases, none_in, Ascends, members_ascend}

@@ -2,8 +2,8 @@
 -- project's own, after the article on CFCSS (IEEE Transactions on Reliability 51(1), 2002).
 use Rattle.std.specs.Prelude.{◌≡◌, ◌<◌, ◌⊎◌, ◌↔◌, ℕ, List, length, map, get_or}
 use Rattle.std.specs.List.{Contains}
-use Rattle.mips_isa.specs.Blocks.{Head, carried}
-use Rattle.hard_code.specs.declared.code.Signed.{Signed}
+use Rattle.mips_text.specs.Blocks.{Head, carried}
+use Rattle.hard_items.specs.declared.code.Signed.{Signed}
 use Rattle.sign_law.specs.Graph.{IsSucc, Linked}
 use Rattle.sign_law.specs.Signs.{head_at}
 use Rattle.sign_law.specs.Marks.{successors_of, head_of}

@@ -1,7 +1,7 @@
 -- The list of aliases as it is made. These definitions serve private contracts alone.
 use Rattle.std.specs.Prelude.{ℕ, ◌+◌, Bool, false, ◌==◌, ◌&&◌, ◌||◌, if◌then◌else◌, List, [], ◌∷◌, ◌++◌, get_or, slice_set, bit_xor}
-use Rattle.hard_code.specs.declared.code.Mark.{Mark}
-use Rattle.hard_code.specs.declared.code.HardBlock.{HardBlock}
+use Rattle.hard_items.specs.declared.code.Mark.{Mark}
+use Rattle.hard_items.specs.declared.code.HardBlock.{HardBlock}
 
 -- The list has a number.
 abbrev pub has : ℕ → List ℕ → Bool

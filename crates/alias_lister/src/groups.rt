@@ -3,7 +3,7 @@
 ghost use Rattle.std.specs.Prelude.{◌≡◌, ◌<◌, ◌≤◌, ℕ, ◌+◌, ◌^◌, [], ◌∷◌, ◌++◌, OnOk, IfOk, vec_len, length, get_or, slice_set, replicate};
 ghost use Rattle.alias_lister.specs.Listing.{grouped};
 
-use hard_code::Mark;
+use hard_items::Mark;
 use hard_words::{OutOfMemory, Words};
 use std::alloc::Global;
 

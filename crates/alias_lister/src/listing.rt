@@ -7,7 +7,7 @@ ghost use Rattle.alias_lister.specs.Aliases.{AreAliases, AreLinked};
 ghost use Rattle.alias_lister.specs.Listing.{has, members, paired, listed};
 
 use crate::groups::groups;
-use hard_code::{HardBlock, Mark, Signed};
+use hard_items::{HardBlock, Mark, Signed};
 use hard_words::{OutOfMemory, Words};
 use std::alloc::Global;
 

@@ -3,19 +3,19 @@ use Rattle.std.proofs.Common.{◌≡◌, ◌<◌, ℕ, zero, suc, ◌+◌, arith
 use Rattle.std.specs.Prelude.{flat_map, ◌&&◌}
 use Rattle.mips_isa.specs.declared.instr.Instr.{Instr}
 use Rattle.mips_isa.specs.declared.instr.Instr.TheVariants.{Beq, Bne}
-use Rattle.hard_code.specs.declared.code.Fix.{Fix}
-use Rattle.hard_code.specs.declared.code.Fix.TheVariants.{Plain, Block, Function, ReturnHigh, ReturnLow}
-use Rattle.hard_code.specs.declared.code.Item.{Item}
-use Rattle.hard_code.specs.declared.code.HardBlock.{HardBlock}
-use Rattle.hard_code.specs.declared.code.HardProgram.{HardProgram}
-use Rattle.hard_code.specs.Counts.{calm_from, is_break, may_stand, loaded, quiet_after}
-use Rattle.hard_code.specs.Forms.{Each, Form, Alone, Product, Store, Test, Output, Takes, Idle, Close, Jump, Branch, Call, Return, Exit, form_items, close_items, FormFits, CloseFits, CloseHasChecks, HalfFits, HalvesAt, HalvesPair, Formed}
-use Rattle.hard_code.specs.Rules.{Checked}
+use Rattle.hard_items.specs.declared.code.Fix.{Fix}
+use Rattle.hard_items.specs.declared.code.Fix.TheVariants.{Plain, Block, Function, ReturnHigh, ReturnLow}
+use Rattle.hard_items.specs.declared.code.Item.{Item}
+use Rattle.hard_items.specs.declared.code.HardBlock.{HardBlock}
+use Rattle.hard_items.specs.declared.code.HardProgram.{HardProgram}
+use Rattle.hard_items.specs.Counts.{calm_from, is_break, may_stand, loaded, quiet_after}
+use Rattle.hard_items.specs.Forms.{Each, Form, Alone, Product, Store, Test, Output, Takes, Idle, Close, Jump, Branch, Call, Return, Exit, form_items, close_items, FormFits, CloseFits, CloseHasChecks, HalfFits, HalvesAt, HalvesPair, Formed}
+use Rattle.hard_items.specs.Rules.{Checked}
 use Rattle.block_relays.specs.Relays.{Relays, Nothing, Next, Turned, Both, goals, place_of, goal_place, turned, put_as, put_item, relay, put_blocks, HasRelays}
 use Rattle.std.specs.Prelude.{slice_get, None, Some, Option}
-use Rattle.hard_code.specs.Run.{items_of, block_items}
-use Rattle.hard_code.specs.Counts.{Calm}
-use Rattle.hard_code.specs.Rules.{Guarded}
+use Rattle.hard_items.specs.Run.{items_of, block_items}
+use Rattle.hard_items.specs.Counts.{Calm}
+use Rattle.hard_items.specs.Rules.{Guarded}
 
 -- ---- forms
 

@@ -6,9 +6,9 @@ use Rattle.mips_isa.specs.declared.instr.Act.TheVariants.{Write, Move, Both, Loa
 use Rattle.mips_isa.specs.declared.instr.End.{End}
 use Rattle.mips_isa.specs.declared.instr.End.TheVariants.{Exited, Starved, Exception}
 use Rattle.mips_isa.specs.Machine.{State, reg, perform, written, moved, with_reg, load, store, service, ended, in_memory, place}
-use Rattle.mips_isa.proofs.Beside.{load_by, store_by, load_is, store_is}
-use Rattle.hard_code.specs.declared.code.Item.{Item}
-use Rattle.hard_code.specs.Run.{Data, machine_of, held, marked, marked_reg, makes_number, value_of, data_after}
+use Rattle.mips_laws.proofs.Beside.{load_by, store_by, load_is, store_is}
+use Rattle.hard_items.specs.declared.code.Item.{Item}
+use Rattle.hard_items.specs.Run.{Data, machine_of, held, marked, marked_reg, makes_number, value_of, data_after}
 use Rattle.block_relays.specs.Renumber.{renamed, SameWords, SameNumbers}
 use Rattle.layout_law.proofs.Data.{set_at, set_off, set_length, same_or_not}
 

@@ -2,14 +2,14 @@
 use Rattle.std.proofs.Common.{◌≡◌, ◌≢◌, ◌≤◌, ◌<◌, ℕ, zero, suc, ◌+◌, ◌-◌, arith, ap, refl, sym, ◌∙◌, subst, List, [], ◌∷◌, ◌++◌, length, map, get_or, Bool, true, false, cond, inl, inr}
 use Rattle.std.specs.Prelude.{Option, Some, None, slice_index, slice_get, ◌⊎◌}
 use Rattle.mips_isa.specs.declared.instr.Instr.TheVariants.{J, Jr}
-use Rattle.hard_code.specs.declared.code.Fix.{Fix}
-use Rattle.hard_code.specs.declared.code.Fix.TheVariants.{Plain, Block, Function, ReturnHigh, ReturnLow}
-use Rattle.hard_code.specs.declared.code.Item.{Item}
-use Rattle.hard_code.specs.declared.code.HardBlock.{HardBlock}
-use Rattle.hard_code.specs.declared.code.HardProgram.{HardProgram}
-use Rattle.hard_code.specs.Run.{items_of, block_items, makes_number}
-use Rattle.hard_code.specs.Ways as mf
-use Rattle.hard_code.specs.Ways.{Holds, MayFollow, IsOfFunction, CallsFunction}
+use Rattle.hard_items.specs.declared.code.Fix.{Fix}
+use Rattle.hard_items.specs.declared.code.Fix.TheVariants.{Plain, Block, Function, ReturnHigh, ReturnLow}
+use Rattle.hard_items.specs.declared.code.Item.{Item}
+use Rattle.hard_items.specs.declared.code.HardBlock.{HardBlock}
+use Rattle.hard_items.specs.declared.code.HardProgram.{HardProgram}
+use Rattle.hard_items.specs.Run.{items_of, block_items, makes_number}
+use Rattle.hard_items.specs.Ways as mf
+use Rattle.hard_items.specs.Ways.{Holds, MayFollow, IsOfFunction, CallsFunction}
 use Rattle.block_relays.specs.Renumber.{LeadsTo, straight, relayed, return_place, opposite, is_branch, IsTest, NoBlock, ItemPlaced, ItemsPlaced, Renumbered}
 use Rattle.block_relays.specs.Renumber as placed
 use Rattle.block_relays.specs.Relays.{Relays, Nothing, Next, Turned, Both, goals, place_of, put_as, put_item, relay, put_blocks, HasRelays, RelaysFit, MayRelay}

@@ -11,15 +11,15 @@ use Rattle.mips_isa.specs.declared.instr.End.TheVariants.{Exception}
 use Rattle.mips_isa.specs.Table.{IsInRange}
 use Rattle.mips_isa.specs.Machine.{State, plus, act, branch, checked, fits_signed, is_jump, reads_of}
 use Rattle.mips_isa.specs.Locality.{Agree, Asks}
-use Rattle.mips_isa.proofs.Locality.{same_act, asks}
-use Rattle.hard_code.specs.declared.code.Class.{Class}
-use Rattle.hard_code.specs.declared.code.Fix.{Fix}
-use Rattle.hard_code.specs.declared.code.Fix.TheVariants.{Plain, Block, Function, ReturnHigh, ReturnLow}
-use Rattle.hard_code.specs.declared.code.Item.{Item}
-use Rattle.hard_code.specs.declared.code.HardProgram.{HardProgram}
-use Rattle.hard_code.specs.Run.{Data, machine_of, held, numbered, item_act, makes_number, is_call, is_low}
-use Rattle.hard_code.specs.Forms.{Each}
-use Rattle.hard_code.specs.Rules.{Reads}
+use Rattle.mips_laws.proofs.Locality.{same_act, asks}
+use Rattle.hard_items.specs.declared.code.Class.{Class}
+use Rattle.hard_items.specs.declared.code.Fix.{Fix}
+use Rattle.hard_items.specs.declared.code.Fix.TheVariants.{Plain, Block, Function, ReturnHigh, ReturnLow}
+use Rattle.hard_items.specs.declared.code.Item.{Item}
+use Rattle.hard_items.specs.declared.code.HardProgram.{HardProgram}
+use Rattle.hard_items.specs.Run.{Data, machine_of, held, numbered, item_act, makes_number, is_call, is_low}
+use Rattle.hard_items.specs.Forms.{Each}
+use Rattle.hard_items.specs.Rules.{Reads}
 use Rattle.block_relays.specs.Renumber.{LeadsTo, return_place, IsReturn, NoBlock, opposite, is_branch, IsTest, ItemPlaced, renamed, SameNumbers}
 use Rattle.block_relays.specs.Renumber as placed
 use Rattle.layout_law.proofs.Data.{MayWrite}

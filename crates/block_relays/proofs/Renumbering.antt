@@ -1,27 +1,27 @@
 -- A program and one that is it with its blocks at other places, side by side.
 use Rattle.std.proofs.Common.{◌≡◌, ◌≢◌, ◌≤◌, ◌<◌, ℕ, zero, suc, ◌-◌, arith, ap, refl, sym, ◌∙◌, subst, List, [], ◌∷◌, ◌++◌, length, append_assoc, replicate, Bool, true, false, inl, inr}
 use Rattle.std.specs.Prelude.{Option, Some, None, slice_index, slice_get}
-use Rattle.hard_words.specs.Stepping.{Stands, Quiet, Leads, Beside, Stage, Always, go, put}
-use Rattle.hard_words.specs.Stepping as stepping
-use Rattle.hard_words.proofs.Following.{follows}
+use Rattle.hard_runs.specs.Stepping.{Stands, Quiet, Leads, Beside, Stage, Always, go, put}
+use Rattle.hard_runs.specs.Stepping as stepping
+use Rattle.hard_runs.proofs.Following.{follows}
 use Rattle.mips_isa.specs.declared.instr.Instr.{Instr}
 use Rattle.mips_isa.specs.declared.instr.Instr.TheVariants.{J, Beq, Bne}
 use Rattle.mips_isa.specs.declared.instr.Act.{Act}
 use Rattle.mips_isa.specs.declared.instr.End.{End}
 use Rattle.mips_isa.specs.Table.{IsInRange}
 use Rattle.mips_isa.specs.Machine.{State, perform, is_jump}
-use Rattle.hard_code.specs.declared.code.Class.{Class}
-use Rattle.hard_code.specs.declared.code.Class.TheVariants as classes
-use Rattle.hard_code.specs.declared.code.Fix.{Fix}
-use Rattle.hard_code.specs.declared.code.Fix.TheVariants.{Plain, Block}
-use Rattle.hard_code.specs.declared.code.Item.{Item}
-use Rattle.hard_code.specs.declared.code.HardBlock.{HardBlock}
-use Rattle.hard_code.specs.declared.code.HardProgram.{HardProgram}
-use Rattle.hard_code.specs.Streams.{nop, plain}
-use Rattle.hard_code.specs.Run.{Data, Spot, Way, Onward, Over, To, machine_of, items, items_of, block_items, item_act, way_of, at_block, arrived, settled, step_from, first_spot, first_data, data_after}
-use Rattle.hard_code.specs.Ways.{Holds}
-use Rattle.hard_code.specs.Forms.{Each, Jump, close_items, going}
-use Rattle.hard_code.specs.Rules.{Lawful, LawfulNext, LawfulAt}
+use Rattle.hard_items.specs.declared.code.Class.{Class}
+use Rattle.hard_items.specs.declared.code.Class.TheVariants as classes
+use Rattle.hard_items.specs.declared.code.Fix.{Fix}
+use Rattle.hard_items.specs.declared.code.Fix.TheVariants.{Plain, Block}
+use Rattle.hard_items.specs.declared.code.Item.{Item}
+use Rattle.hard_items.specs.declared.code.HardBlock.{HardBlock}
+use Rattle.hard_items.specs.declared.code.HardProgram.{HardProgram}
+use Rattle.hard_items.specs.Streams.{nop, plain}
+use Rattle.hard_items.specs.Run.{Data, Spot, Way, Onward, Over, To, machine_of, items, items_of, block_items, item_act, way_of, at_block, arrived, settled, step_from, first_spot, first_data, data_after}
+use Rattle.hard_items.specs.Ways.{Holds}
+use Rattle.hard_items.specs.Forms.{Each, Jump, close_items, going}
+use Rattle.hard_items.specs.Rules.{Lawful, LawfulNext, LawfulAt}
 use Rattle.layout_law.specs.Level.{LastSlot, SkippedSlot, IsNop, IsStop, Lines}
 use Rattle.block_relays.specs.Renumber.{LeadsTo, straight, relayed, return_place, IsReturn, is_branch, IsTest, ItemPlaced, ItemsPlaced, Renumbered, Orderly, renamed, SameWords, SameNumbers, RunsRenumbered}
 use Rattle.block_relays.specs.Renumber as placed

@@ -5,20 +5,20 @@ use Rattle.mips_isa.specs.declared.instr.Instr.{Instr}
 use Rattle.mips_isa.specs.declared.instr.Instr.TheVariants.{J, Jal, Jr, Beq, Bne}
 use Rattle.mips_isa.specs.Machine.{is_product}
 use Rattle.mips_isa.specs.Locality.{is_move, is_data}
-use Rattle.hard_code.specs.declared.code.Fix.{Fix}
-use Rattle.hard_code.specs.declared.code.Fix.TheVariants.{Plain, Block, Function, ReturnHigh, ReturnLow}
-use Rattle.hard_code.specs.declared.code.Item.{Item}
-use Rattle.hard_code.specs.declared.code.HardProgram.{HardProgram}
-use Rattle.hard_code.specs.Run.{items_of, makes_number}
-use Rattle.hard_code.specs.Ways as mf
-use Rattle.hard_code.specs.Ways.{Holds, MayFollow, IsOfFunction, CallsFunction}
-use Rattle.hard_code.specs.Forms.{Each, Form, Alone, Product, Store, Test, Output, Takes, Idle, Close, Jump, Branch, Call, Return, Exit, form_items, close_items, block_of, FormFits, HalfFits, Formed}
+use Rattle.hard_items.specs.declared.code.Fix.{Fix}
+use Rattle.hard_items.specs.declared.code.Fix.TheVariants.{Plain, Block, Function, ReturnHigh, ReturnLow}
+use Rattle.hard_items.specs.declared.code.Item.{Item}
+use Rattle.hard_items.specs.declared.code.HardProgram.{HardProgram}
+use Rattle.hard_items.specs.Run.{items_of, makes_number}
+use Rattle.hard_items.specs.Ways as mf
+use Rattle.hard_items.specs.Ways.{Holds, MayFollow, IsOfFunction, CallsFunction}
+use Rattle.hard_items.specs.Forms.{Each, Form, Alone, Product, Store, Test, Output, Takes, Idle, Close, Jump, Branch, Call, Return, Exit, form_items, close_items, block_of, FormFits, HalfFits, Formed}
 use Rattle.block_relays.specs.Renumber.{is_branch, IsTest}
 use Rattle.block_relays.specs.Relays.{Relays, Nothing, Next, Turned, Both, RelaysFit, MayRelay, place_of, HasRelays}
-use Rattle.hard_words.specs.Observed.{SameObserved}
-use Rattle.hard_words.specs.Stepping.{Always}
-use Rattle.hard_code.specs.Run.{items, first_spot, item_run}
-use Rattle.hard_code.specs.Rules.{LawfulAt}
+use Rattle.hard_runs.specs.Observed.{SameObserved}
+use Rattle.hard_runs.specs.Stepping.{Always}
+use Rattle.hard_items.specs.Run.{items, first_spot, item_run}
+use Rattle.hard_items.specs.Rules.{LawfulAt}
 use Rattle.block_relays.specs.Renumber.{Orderly}
 use Rattle.block_relays.proofs.Renumbering.{runs_renumbered}
 use Rattle.block_relays.proofs.Relays.{relays_renumber}
@@ -84,30 +84,30 @@ each_append : (P : Item → Type 0) (xs ys : List Item) → Each P xs → Each P
 each_append P [] ys h k = k
 each_append P (x ∷ xs) ys h k = (h.0, each_append P xs ys h.1 k)
 
-check_roles : (c : Close) (checked : Bool) (m : ℕ) → Each (Role c) (Rattle.hard_code.specs.Forms.check_if checked m)
+check_roles : (c : Close) (checked : Bool) (m : ℕ) → Each (Role c) (Rattle.hard_items.specs.Forms.check_if checked m)
 check_roles c true m = (unit tt, (unit tt, (unit tt, tt)))
 check_roles c false m = tt
 
-number_roles : (c : Close) (checked : Bool) (n : ℕ) → Each (Role c) (Rattle.hard_code.specs.Forms.service_number checked n)
+number_roles : (c : Close) (checked : Bool) (n : ℕ) → Each (Role c) (Rattle.hard_items.specs.Forms.service_number checked n)
 number_roles c true n = (unit tt, (unit tt, (unit tt, tt)))
 number_roles c false n = (unit tt, tt)
 
 form_roles : (c : Close) (f : Form) → FormFits f → Each (Role c) (form_items f)
 form_roles c (Alone i) h = (record { is = alone c i i.fix h.computes h.half_fits }, tt)
 form_roles c (Product i j) h = (as_plain c i h.plain_product (by_product c i.instr h.product), (as_plain c j h.plain_move (by_move c j.instr h.move), tt))
-form_roles c (Store checked v b o) h = each_append (Role c) (Rattle.hard_code.specs.Forms.check_if checked v) _ (check_roles c checked v) (each_append (Role c) (Rattle.hard_code.specs.Forms.check_if checked b) _ (check_roles c checked b) (unit tt, (unit tt, tt)))
-form_roles c (Test checked r code) h = each_append (Role c) (Rattle.hard_code.specs.Forms.check_if checked r) _ (check_roles c checked r) (unit tt, (unit tt, (unit tt, tt)))
-form_roles c (Output checked) h = each_append (Role c) (Rattle.hard_code.specs.Forms.service_number checked 1) _ (number_roles c checked 1) (unit tt, tt)
+form_roles c (Store checked v b o) h = each_append (Role c) (Rattle.hard_items.specs.Forms.check_if checked v) _ (check_roles c checked v) (each_append (Role c) (Rattle.hard_items.specs.Forms.check_if checked b) _ (check_roles c checked b) (unit tt, (unit tt, tt)))
+form_roles c (Test checked r code) h = each_append (Role c) (Rattle.hard_items.specs.Forms.check_if checked r) _ (check_roles c checked r) (unit tt, (unit tt, (unit tt, tt)))
+form_roles c (Output checked) h = each_append (Role c) (Rattle.hard_items.specs.Forms.service_number checked 1) _ (number_roles c checked 1) (unit tt, tt)
 form_roles c (Takes r) h = (unit tt, (unit tt, (unit tt, (unit tt, tt))))
 form_roles c Idle h = (unit tt, tt)
 
 close_roles : (c : Close) → Each (Role c) (close_items c)
 close_roles (Jump to) = (unit (refl, refl), (unit tt, tt))
-close_roles (Branch checked r true to) = each_append (Role (Branch checked r true to)) (Rattle.hard_code.specs.Forms.check_if checked r) _ (check_roles (Branch checked r true to) checked r) (unit (inl refl, refl), (unit tt, tt))
-close_roles (Branch checked r false to) = each_append (Role (Branch checked r false to)) (Rattle.hard_code.specs.Forms.check_if checked r) _ (check_roles (Branch checked r false to) checked r) (unit (inr refl, refl), (unit tt, tt))
+close_roles (Branch checked r true to) = each_append (Role (Branch checked r true to)) (Rattle.hard_items.specs.Forms.check_if checked r) _ (check_roles (Branch checked r true to) checked r) (unit (inl refl, refl), (unit tt, tt))
+close_roles (Branch checked r false to) = each_append (Role (Branch checked r false to)) (Rattle.hard_items.specs.Forms.check_if checked r) _ (check_roles (Branch checked r false to) checked r) (unit (inr refl, refl), (unit tt, tt))
 close_roles (Call f) = (unit (tt, refl), (unit tt, tt))
-close_roles (Return checked) = each_append (Role (Return checked)) (Rattle.hard_code.specs.Forms.check_if checked 31) _ (check_roles (Return checked) checked 31) (unit tt, (unit tt, tt))
-close_roles (Exit checked) = each_append (Role (Exit checked)) (Rattle.hard_code.specs.Forms.service_number checked 17) _ (number_roles (Exit checked) checked 17) (unit tt, (unit tt, tt))
+close_roles (Return checked) = each_append (Role (Return checked)) (Rattle.hard_items.specs.Forms.check_if checked 31) _ (check_roles (Return checked) checked 31) (unit tt, (unit tt, tt))
+close_roles (Exit checked) = each_append (Role (Exit checked)) (Rattle.hard_items.specs.Forms.service_number checked 17) _ (number_roles (Exit checked) checked 17) (unit tt, (unit tt, tt))
 
 forms_roles : (c : Close) (fs : List Form) → Each FormFits fs → Each (Role c) (flat_map form_items fs)
 forms_roles c [] h = tt

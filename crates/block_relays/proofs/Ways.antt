@@ -7,16 +7,16 @@ use Rattle.mips_isa.specs.declared.instr.Act.{Act}
 use Rattle.mips_isa.specs.declared.instr.End.TheVariants.{Exception}
 use Rattle.mips_isa.specs.Machine.{State, plus, perform, is_jump, reads_of}
 use Rattle.hard_words.specs.Words.{extended}
-use Rattle.hard_code.specs.declared.code.Class.{Class}
-use Rattle.hard_code.specs.declared.code.Fix.{Fix}
-use Rattle.hard_code.specs.declared.code.Fix.TheVariants.{Plain, Block, ReturnHigh, ReturnLow}
-use Rattle.hard_code.specs.declared.code.Item.{Item}
-use Rattle.hard_code.specs.declared.code.HardProgram.{HardProgram}
-use Rattle.hard_code.specs.Run.{Data, Way, Onward, Over, To, machine_of, held, named, item_act, branch_way, way_of}
-use Rattle.hard_code.specs.Ways.{MayFollow, Holds}
-use Rattle.hard_code.specs.Forms.{Each}
-use Rattle.hard_code.specs.Rules.{Reads, Returns, Lawful, NoException}
-use Rattle.hard_code.specs.Rules as rules
+use Rattle.hard_items.specs.declared.code.Class.{Class}
+use Rattle.hard_items.specs.declared.code.Fix.{Fix}
+use Rattle.hard_items.specs.declared.code.Fix.TheVariants.{Plain, Block, ReturnHigh, ReturnLow}
+use Rattle.hard_items.specs.declared.code.Item.{Item}
+use Rattle.hard_items.specs.declared.code.HardProgram.{HardProgram}
+use Rattle.hard_items.specs.Run.{Data, Way, Onward, Over, To, machine_of, held, named, item_act, branch_way, way_of}
+use Rattle.hard_items.specs.Ways.{MayFollow, Holds}
+use Rattle.hard_items.specs.Forms.{Each}
+use Rattle.hard_items.specs.Rules.{Reads, Returns, Lawful, NoException}
+use Rattle.hard_items.specs.Rules as rules
 use Rattle.layout_law.specs.Level.{LastSlot, SkippedSlot}
 use Rattle.block_relays.specs.Renumber.{LeadsTo, straight, return_place, IsReturn, NoBlock, opposite, is_branch, IsTest, ItemPlaced, Renumbered, renamed, SameNumbers}
 use Rattle.block_relays.specs.Renumber as placed

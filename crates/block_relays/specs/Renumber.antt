@@ -1,19 +1,19 @@
 -- One program of items as another with its blocks at other places, and with blocks of their own for some ways: what the far form
 -- of branches and the splitting of edges have in common. The notion is the project's own.
 use Rattle.std.specs.Prelude.{◌≡◌, ◌<◌, ◌≤◌, ℕ, ◌+◌, ◌-◌, Bool, true, false, if◌then◌else◌, List, [], ◌∷◌, length, slice_index}
-use Rattle.hard_words.specs.Observed.{SameObserved}
-use Rattle.hard_words.specs.Stepping.{Always}
+use Rattle.hard_runs.specs.Observed.{SameObserved}
+use Rattle.hard_runs.specs.Stepping.{Always}
 use Rattle.mips_isa.specs.declared.instr.Instr.{Instr}
 use Rattle.mips_isa.specs.declared.instr.Instr.TheVariants.{J, Jr, Beq, Bne}
 use Rattle.mips_isa.specs.Table.{IsInRange}
-use Rattle.hard_code.specs.declared.code.Fix.{Fix}
-use Rattle.hard_code.specs.declared.code.Fix.TheVariants.{Block, Function}
-use Rattle.hard_code.specs.declared.code.Item.{Item}
-use Rattle.hard_code.specs.declared.code.HardProgram.{HardProgram}
-use Rattle.hard_code.specs.Run.{Data, items, items_of, makes_number, first_spot, item_run}
-use Rattle.hard_code.specs.Ways.{Holds, MayFollow}
-use Rattle.hard_code.specs.Forms.{Each, Jump, close_items}
-use Rattle.hard_code.specs.Rules.{LawfulAt}
+use Rattle.hard_items.specs.declared.code.Fix.{Fix}
+use Rattle.hard_items.specs.declared.code.Fix.TheVariants.{Block, Function}
+use Rattle.hard_items.specs.declared.code.Item.{Item}
+use Rattle.hard_items.specs.declared.code.HardProgram.{HardProgram}
+use Rattle.hard_items.specs.Run.{Data, items, items_of, makes_number, first_spot, item_run}
+use Rattle.hard_items.specs.Ways.{Holds, MayFollow}
+use Rattle.hard_items.specs.Forms.{Each, Jump, close_items}
+use Rattle.hard_items.specs.Rules.{LawfulAt}
 use Rattle.layout_law.specs.Level.{Lines}
 
 -- ---- places

@@ -7,11 +7,11 @@ use Rattle.mips_isa.specs.declared.instr.End.TheVariants.{Exception, Starved, Ex
 use Rattle.mips_isa.specs.Machine as machine
 use Rattle.mips_isa.specs.Machine.{reads_of, place}
 use Rattle.mips_isa.specs.Locality.{is_move}
-use Rattle.hard_code.specs.declared.code.Class.{Class}
-use Rattle.hard_code.specs.declared.code.Item.{Item}
-use Rattle.hard_code.specs.Streams.{nop, plain}
-use Rattle.hard_code.specs.Run.{Data, item_act, data_after, machine_of, makes_number, backs_after, stored_after, value_of}
-use Rattle.hard_code.specs.Forms.{Each}
+use Rattle.hard_items.specs.declared.code.Class.{Class}
+use Rattle.hard_items.specs.declared.code.Item.{Item}
+use Rattle.hard_items.specs.Streams.{nop, plain}
+use Rattle.hard_items.specs.Run.{Data, item_act, data_after, machine_of, makes_number, backs_after, stored_after, value_of}
+use Rattle.hard_items.specs.Forms.{Each}
 use Rattle.block_schedule.specs.Merging.{leaves, SameButHalves}
 use Rattle.block_schedule.proofs.Merges.{mark_agree, same_item}
 

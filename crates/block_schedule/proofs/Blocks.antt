@@ -3,14 +3,14 @@ use Rattle.std.proofs.Common.{◌≡◌, ◌≢◌, ◌≤◌, ◌<◌, ℕ, zer
 use Rattle.std.specs.Prelude.{◌⊎◌, ◌==◌, Contains}
 use Rattle.std.proofs.lemmas.List.Elements.{Contains-append_left, Contains-append_right, Contains-append_cases}
 use Rattle.mips_isa.specs.declared.instr.Instr.{Instr}
-use Rattle.hard_code.specs.declared.code.Class.{Class}
-use Rattle.hard_code.specs.declared.code.Class.TheVariants as class
-use Rattle.hard_code.specs.declared.code.Fix.{Fix}
-use Rattle.hard_code.specs.declared.code.Fix.TheVariants.{Plain, Block, Function, ReturnHigh, ReturnLow}
-use Rattle.hard_code.specs.declared.code.Item.{Item}
-use Rattle.hard_code.specs.Streams.{touched, is_of}
-use Rattle.hard_code.specs.Forms.{Form, Alone, Product, Close, form_items, close_items, block_of, Each, StandsAlone, IsProduct, MayTouch, HalfFits, HalvesAt, HalvesPair}
-use Rattle.block_laws.specs.Keeping.{IsAdded}
+use Rattle.hard_items.specs.declared.code.Class.{Class}
+use Rattle.hard_items.specs.declared.code.Class.TheVariants as class
+use Rattle.hard_items.specs.declared.code.Fix.{Fix}
+use Rattle.hard_items.specs.declared.code.Fix.TheVariants.{Plain, Block, Function, ReturnHigh, ReturnLow}
+use Rattle.hard_items.specs.declared.code.Item.{Item}
+use Rattle.hard_items.specs.Streams.{touched, is_of}
+use Rattle.hard_items.specs.Forms.{Form, Alone, Product, Close, form_items, close_items, block_of, Each, StandsAlone, IsProduct, MayTouch, HalfFits, HalvesAt, HalvesPair}
+use Rattle.hard_items.specs.Keeping.{IsAdded}
 use Rattle.block_schedule.specs.declared.unit.Whole.{Whole}
 use Rattle.block_schedule.specs.declared.unit.Whole.TheVariants.{One, Two}
 use Rattle.block_schedule.specs.Scheduling.{unit_items, in_turn}

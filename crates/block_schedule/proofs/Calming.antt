@@ -2,9 +2,9 @@
 use Rattle.std.proofs.Common.{◌≡◌, ℕ, zero, suc, ◌-◌, arith, ap, refl, ◌∙◌, List, [], ◌∷◌, ◌++◌, replicate, Bool, true, false, cond, not, max}
 use Rattle.std.specs.Prelude.{◌==◌, ◌&&◌, ◌||◌, nat_lt}
 use Rattle.mips_isa.specs.Machine.{reads_of, is_product, among}
-use Rattle.hard_code.specs.declared.code.Item.{Item}
-use Rattle.hard_code.specs.Streams.{nop}
-use Rattle.hard_code.specs.Counts.{loaded, quiet_after, is_break, may_stand, calm_from}
+use Rattle.hard_items.specs.declared.code.Item.{Item}
+use Rattle.hard_items.specs.Streams.{nop}
+use Rattle.hard_items.specs.Counts.{loaded, quiet_after, is_break, may_stand, calm_from}
 use Rattle.block_schedule.specs.Scheduling.{wait, with_nops}
 use Rattle.block_schedule.proofs.Parts.{idle}
 

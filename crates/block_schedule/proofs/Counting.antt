@@ -6,18 +6,19 @@ use Rattle.mips_isa.specs.declared.instr.Instr.{Instr}
 use Rattle.mips_isa.specs.declared.instr.Instr.TheVariants as mips
 use Rattle.mips_isa.specs.Machine.{is_jump, is_product, reads_of, among}
 use Rattle.mips_isa.specs.Locality.{is_data, is_move}
-use Rattle.hard_code.specs.declared.code.Class.{Class}
-use Rattle.hard_code.specs.declared.code.Class.TheVariants as class
-use Rattle.hard_code.specs.declared.code.Item.{Item}
-use Rattle.hard_code.specs.declared.code.HardBlock.{HardBlock}
-use Rattle.hard_code.specs.declared.code.HardProgram.{HardProgram}
-use Rattle.hard_code.specs.Forms.{Each, Form, Alone, Product, Store, Test, Output, Takes, Idle, Close, form_items, close_items, FormFits, CloseFits}
-use Rattle.hard_code.specs.Counts.{loaded, quiet_after, is_break, free_nops, free_nops_behind, is_nop, is_branch, branches, nops_for, is_of_check, checks_wanted, checks_there, block_room, is_reload}
+use Rattle.hard_items.specs.declared.code.Class.{Class}
+use Rattle.hard_items.specs.declared.code.Class.TheVariants as class
+use Rattle.hard_items.specs.declared.code.Item.{Item}
+use Rattle.hard_items.specs.declared.code.HardBlock.{HardBlock}
+use Rattle.hard_items.specs.declared.code.HardProgram.{HardProgram}
+use Rattle.hard_items.specs.Forms.{Each, Form, Alone, Product, Store, Test, Output, Takes, Idle, Close, form_items, close_items, FormFits, CloseFits}
+use Rattle.mips_text.specs.Loads.{is_reload}
+use Rattle.hard_items.specs.Counts.{loaded, quiet_after, is_break, free_nops, free_nops_behind, is_nop, is_branch, branches, nops_for, is_of_check, checks_wanted, checks_there, block_room}
 use Rattle.block_schedule.specs.declared.unit.Whole.{Whole}
 use Rattle.block_schedule.specs.declared.unit.Whole.TheVariants.{One, Two}
 use Rattle.block_schedule.specs.Scheduling.{unit_items, class_of, units, units_behind, in_turn, by_stream, riffled, turned, wait, with_nops, scheduled, scheduled_block, scheduled_program}
 use Rattle.block_schedule.specs.Merging.{Merge, done, first, second}
-use Rattle.block_laws.specs.Counted.{HasNoFreeNop}
+use Rattle.hard_items.specs.Counted.{HasNoFreeNop}
 use Rattle.block_schedule.specs.Law.{KeepsCounts}
 use Rattle.block_schedule.proofs.Leading.{InStretch, merge_in}
 use Rattle.block_schedule.proofs.Parts.{idle, flat, flat_both, Spaced, nothing, unit, space, Stretched, Parts, part, closing, IsFixed, in_turn_merges}

@@ -2,26 +2,26 @@
 use Rattle.std.proofs.Common.{◌≡◌, ◌≢◌, ◌≤◌, ◌<◌, ℕ, zero, suc, ◌+◌, arith, ap, refl, sym, ◌∙◌, subst, List, [], ◌∷◌, ◌++◌, length, map, Bool, true, false, cond, not, inl, inr, ⊎_elim}
 use Rattle.std.specs.Prelude.{Option, Some, None, ◌⊎◌, ◌||◌, ◌==◌, slice_get, Contains, All, is_some}
 use Rattle.std.specs.List.{list_any}
-use Rattle.hard_code.specs.Streams.{is_stream, touched}
+use Rattle.hard_items.specs.Streams.{is_stream, touched}
 use Rattle.std.proofs.lemmas.List.Elements.{All-head, All-tail}
-use Rattle.hard_words.specs.Observed.{SameObserved}
+use Rattle.hard_runs.specs.Observed.{SameObserved}
 use Rattle.hard_words.specs.Words.{AreWords}
-use Rattle.hard_words.specs.Stepping.{Always}
+use Rattle.hard_runs.specs.Stepping.{Always}
 use Rattle.mips_isa.specs.declared.instr.End.TheVariants.{Reported}
-use Rattle.hard_code.specs.declared.code.Item.{Item}
-use Rattle.hard_code.specs.declared.code.HardBlock.{HardBlock}
-use Rattle.hard_code.specs.declared.code.HardProgram.{HardProgram}
-use Rattle.hard_code.specs.Run.{items, items_of, first_spot, item_run, block_items}
-use Rattle.hard_code.specs.Forms.{Form, Close, Formed, HalvesPair, Each, FormFits, CloseFits, HasChecks, CloseHasChecks}
-use Rattle.hard_code.specs.Rules.{LawfulAt, Guarded, Checked, Apart, NeverReports}
-use Rattle.hard_code.specs.Counts.{Calm, calm_from, free_nops, Turned, TurnedThrough}
-use Rattle.mips_isa.specs.Turns as words
-use Rattle.block_laws.specs.Keeping.{IsAdded, OnlyAdds}
-use Rattle.block_laws.specs.Runs.{SameRuns}
-use Rattle.block_laws.proofs.Keeping.{well_formed_stays, halves_call}
+use Rattle.hard_items.specs.declared.code.Item.{Item}
+use Rattle.hard_items.specs.declared.code.HardBlock.{HardBlock}
+use Rattle.hard_items.specs.declared.code.HardProgram.{HardProgram}
+use Rattle.hard_items.specs.Run.{items, items_of, first_spot, item_run, block_items}
+use Rattle.hard_items.specs.Forms.{Form, Close, Formed, HalvesPair, Each, FormFits, CloseFits, HasChecks, CloseHasChecks}
+use Rattle.hard_items.specs.Rules.{LawfulAt, Guarded, Checked, Apart, NeverReports}
+use Rattle.hard_items.specs.Counts.{Calm, calm_from, free_nops, Turned, TurnedThrough}
+use Rattle.mips_text.specs.Turns as words
+use Rattle.hard_items.specs.Keeping.{IsAdded, OnlyAdds}
+use Rattle.hard_items.specs.Runs.{SameRuns}
+use Rattle.hard_laws.proofs.Keeping.{well_formed_stays, halves_call}
 use Rattle.block_schedule.specs.Scheduling.{turned, scheduled, scheduled_block, scheduled_program}
 use Rattle.block_schedule.specs.Merging.{done}
-use Rattle.block_laws.specs.Counted.{HasNoFreeNop, AreBusy, of_streams}
+use Rattle.hard_items.specs.Counted.{HasNoFreeNop, AreBusy, of_streams}
 use Rattle.block_schedule.specs.Law.{KeepsCounts}
 use Rattle.block_schedule.proofs.Parts.{Parts, parts_of}
 use Rattle.block_schedule.proofs.Blocks.{Built, parts_built, parts_halves, parts_keep, parts_old, idle_added}

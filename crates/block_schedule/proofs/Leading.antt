@@ -1,7 +1,7 @@
 -- A stretch of lawful units runs as quiet steps, in whatever order its streams are merged.
 use Rattle.std.proofs.Common.{◌≡◌, ◌≢◌, ◌≤◌, ◌<◌, ℕ, zero, suc, ◌+◌, ◌%◌, ap, refl, sym, ◌∙◌, subst, List, [], ◌∷◌, ◌++◌, length, Bool, true, false, cond, not, inl, inr, flat_map, ⊎_elim}
 use Rattle.std.specs.Prelude.{Option, Some, None, ◌⊎◌, ◌==◌, slice_index}
-use Rattle.hard_words.specs.Stepping.{Leads}
+use Rattle.hard_runs.specs.Stepping.{Leads}
 use Rattle.mips_isa.specs.declared.instr.Instr.{Instr}
 use Rattle.mips_isa.specs.declared.instr.Instr.TheVariants as mips
 use Rattle.mips_isa.specs.declared.instr.Act.{Act}
@@ -11,17 +11,17 @@ use Rattle.mips_isa.specs.declared.instr.End.TheVariants.{Exception}
 use Rattle.mips_isa.specs.Machine as machine
 use Rattle.mips_isa.specs.Machine.{writes_of, place}
 use Rattle.mips_isa.specs.Locality.{is_data, Twins}
-use Rattle.mips_isa.proofs.Locality.{twins}
-use Rattle.hard_code.specs.declared.code.Class.{Class}
-use Rattle.hard_code.specs.declared.code.Class.TheVariants as class
-use Rattle.hard_code.specs.declared.code.Fix.{Fix}
-use Rattle.hard_code.specs.declared.code.Fix.TheVariants.{Plain, Block, Function, ReturnHigh, ReturnLow}
-use Rattle.hard_code.specs.declared.code.Item.{Item}
-use Rattle.hard_code.specs.declared.code.HardProgram.{HardProgram}
-use Rattle.hard_code.specs.Streams.{is_stream}
-use Rattle.hard_code.specs.Run.{Data, Spot, Way, Onward, items, item_act, machine_of, way_of, settled, numbered, completed}
-use Rattle.hard_code.specs.Rules.{LawfulAt, NoException}
-use Rattle.hard_code.specs.Forms.{Each}
+use Rattle.mips_laws.proofs.Locality.{twins}
+use Rattle.hard_items.specs.declared.code.Class.{Class}
+use Rattle.hard_items.specs.declared.code.Class.TheVariants as class
+use Rattle.hard_items.specs.declared.code.Fix.{Fix}
+use Rattle.hard_items.specs.declared.code.Fix.TheVariants.{Plain, Block, Function, ReturnHigh, ReturnLow}
+use Rattle.hard_items.specs.declared.code.Item.{Item}
+use Rattle.hard_items.specs.declared.code.HardProgram.{HardProgram}
+use Rattle.hard_items.specs.Streams.{is_stream}
+use Rattle.hard_items.specs.Run.{Data, Spot, Way, Onward, items, item_act, machine_of, way_of, settled, numbered, completed}
+use Rattle.hard_items.specs.Rules.{LawfulAt, NoException}
+use Rattle.hard_items.specs.Forms.{Each}
 use Rattle.block_schedule.specs.declared.unit.Whole.{Whole}
 use Rattle.block_schedule.specs.declared.unit.Whole.TheVariants.{One, Two}
 use Rattle.block_schedule.specs.Scheduling.{unit_items}

@@ -10,18 +10,18 @@ use Rattle.mips_isa.specs.declared.instr.End.{End}
 use Rattle.mips_isa.specs.Machine as machine
 use Rattle.mips_isa.specs.Machine.{reads_of, writes_of, written, is_product, place}
 use Rattle.mips_isa.specs.Locality.{is_move, is_data, Agree, AgreeHalves, Twins}
-use Rattle.mips_isa.proofs.Locality.{same_act, twins}
-use Rattle.hard_code.specs.declared.code.Class.{Class}
-use Rattle.hard_code.specs.declared.code.Class.TheVariants.{Master, Shadow}
-use Rattle.hard_code.specs.declared.code.Fix.{Fix}
-use Rattle.hard_code.specs.declared.code.Fix.TheVariants.{Plain, Block, Function, ReturnHigh, ReturnLow}
-use Rattle.hard_code.specs.declared.code.Item.{Item}
-use Rattle.hard_code.specs.Streams.{is_master, is_shadow, touched}
-use Rattle.hard_code.specs.Run.{Data, item_act, data_after, machine_of, held, numbered, completed, marked, marked_reg, makes_number}
+use Rattle.mips_laws.proofs.Locality.{same_act, twins}
+use Rattle.hard_items.specs.declared.code.Class.{Class}
+use Rattle.hard_items.specs.declared.code.Class.TheVariants.{Master, Shadow}
+use Rattle.hard_items.specs.declared.code.Fix.{Fix}
+use Rattle.hard_items.specs.declared.code.Fix.TheVariants.{Plain, Block, Function, ReturnHigh, ReturnLow}
+use Rattle.hard_items.specs.declared.code.Item.{Item}
+use Rattle.hard_items.specs.Streams.{is_master, is_shadow, touched}
+use Rattle.hard_items.specs.Run.{Data, item_act, data_after, machine_of, held, numbered, completed, marked, marked_reg, makes_number}
 use Rattle.hard_words.specs.Words.{extended}
-use Rattle.hard_code.specs.declared.code.HardProgram.{HardProgram}
-use Rattle.hard_code.specs.Rules.{Lawful, Placed, Returns, Reads, Parity}
-use Rattle.hard_code.specs.Forms.{Each, MayTouch, StandsAlone, IsProduct, HalfFits}
+use Rattle.hard_items.specs.declared.code.HardProgram.{HardProgram}
+use Rattle.hard_items.specs.Rules.{Lawful, Placed, Returns, Reads, Parity}
+use Rattle.hard_items.specs.Forms.{Each, MayTouch, StandsAlone, IsProduct, HalfFits}
 use Rattle.block_schedule.specs.declared.unit.Whole.{Whole}
 use Rattle.block_schedule.specs.declared.unit.Whole.TheVariants.{One, Two}
 use Rattle.block_schedule.specs.Scheduling.{unit_items}

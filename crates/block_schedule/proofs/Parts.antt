@@ -5,12 +5,12 @@ use Rattle.mips_isa.specs.declared.instr.Instr.{Instr}
 use Rattle.mips_isa.specs.declared.instr.Instr.TheVariants as mips
 use Rattle.mips_isa.specs.Machine.{is_product}
 use Rattle.mips_isa.specs.Locality.{is_data, is_move}
-use Rattle.hard_code.specs.declared.code.Class.{Class}
-use Rattle.hard_code.specs.declared.code.Class.TheVariants as class
-use Rattle.hard_code.specs.declared.code.Item.{Item}
-use Rattle.hard_code.specs.Streams.{is_stream, shadow_of, nop, plain}
-use Rattle.hard_code.specs.Forms.{Form, Alone, Product, Store, Test, Output, Takes, Idle, Close, Jump, Branch, Call, Return, Exit, form_items, close_items, block_of, Each, FormFits, StandsAlone, IsProduct, check, check_if}
-use Rattle.hard_code.specs.Counts.{loaded, quiet_after, is_break}
+use Rattle.hard_items.specs.declared.code.Class.{Class}
+use Rattle.hard_items.specs.declared.code.Class.TheVariants as class
+use Rattle.hard_items.specs.declared.code.Item.{Item}
+use Rattle.hard_items.specs.Streams.{is_stream, shadow_of, nop, plain}
+use Rattle.hard_items.specs.Forms.{Form, Alone, Product, Store, Test, Output, Takes, Idle, Close, Jump, Branch, Call, Return, Exit, form_items, close_items, block_of, Each, FormFits, StandsAlone, IsProduct, check, check_if}
+use Rattle.hard_items.specs.Counts.{loaded, quiet_after, is_break}
 use Rattle.block_schedule.specs.declared.unit.Whole.{Whole}
 use Rattle.block_schedule.specs.declared.unit.Whole.TheVariants.{One, Two}
 use Rattle.block_schedule.specs.Scheduling.{unit_items, units_behind, in_turn, by_stream, riffled, wait, with_nops}

@@ -1,26 +1,26 @@
 -- The new order keeps the run, and carries over that each item is lawful.
 use Rattle.std.proofs.Common.{◌≡◌, ◌≢◌, ◌≤◌, ◌<◌, ℕ, zero, suc, ◌+◌, ◌-◌, ◌%◌, ◌^◌, arith, ap, refl, sym, ◌∙◌, subst, List, [], ◌∷◌, ◌++◌, append_assoc, length, Bool, true, false, cond, not, inl, inr, flat_map, ⊎_elim}
 use Rattle.std.specs.Prelude.{Option, Some, None, ◌⊎◌, ◌==◌, slice_index}
-use Rattle.hard_words.specs.Observed.{SameObserved}
+use Rattle.hard_runs.specs.Observed.{SameObserved}
 use Rattle.hard_words.specs.Words.{extended}
-use Rattle.hard_words.specs.Stepping.{Stands, Stage, Always, Leads, Beside, on, over, Went, after, go, put}
-use Rattle.hard_words.proofs.Following.{follows, goes_on as run_goes_on, begins as run_begins, leads_go}
+use Rattle.hard_runs.specs.Stepping.{Stands, Stage, Always, Leads, Beside, on, over, Went, after, go, put}
+use Rattle.hard_runs.proofs.Following.{follows, goes_on as run_goes_on, begins as run_begins, leads_go}
 use Rattle.mips_isa.specs.declared.instr.Instr.{Instr}
 use Rattle.mips_isa.specs.declared.instr.Instr.TheVariants as mips
 use Rattle.mips_isa.specs.declared.instr.Act.{Act}
 use Rattle.mips_isa.specs.declared.instr.End.{End}
 use Rattle.mips_isa.specs.Machine as machine
 use Rattle.mips_isa.specs.Locality.{is_move}
-use Rattle.hard_code.specs.declared.code.Class.TheVariants as class
-use Rattle.hard_code.specs.declared.code.Fix.{Fix}
-use Rattle.hard_code.specs.declared.code.Fix.TheVariants.{Plain, Block, Function, ReturnHigh, ReturnLow}
-use Rattle.hard_code.specs.declared.code.Item.{Item}
-use Rattle.hard_code.specs.declared.code.HardProgram.{HardProgram}
-use Rattle.hard_code.specs.Streams.{nop, plain, shadow_of}
-use Rattle.hard_code.specs.Run.{Data, Spot, Way, Onward, Over, To, items, before, at_block, items_of, item_act, machine_of, way_of, held, named, branch_way, arrived, data_after, settled, first_spot, first_data, item_run, step_from}
-use Rattle.hard_code.specs.Rules.{Lawful, LawfulAt, LawfulNext, Placed, Parity, Returns, Reads}
-use Rattle.hard_code.specs.Ways.{MayFollow}
-use Rattle.hard_code.specs.Forms.{Each, Form, Alone, Product, Store, Test, Output, Takes, Idle, Close, Jump, Branch, Call, Return, Exit, form_items, close_items, check, check_if}
+use Rattle.hard_items.specs.declared.code.Class.TheVariants as class
+use Rattle.hard_items.specs.declared.code.Fix.{Fix}
+use Rattle.hard_items.specs.declared.code.Fix.TheVariants.{Plain, Block, Function, ReturnHigh, ReturnLow}
+use Rattle.hard_items.specs.declared.code.Item.{Item}
+use Rattle.hard_items.specs.declared.code.HardProgram.{HardProgram}
+use Rattle.hard_items.specs.Streams.{nop, plain, shadow_of}
+use Rattle.hard_items.specs.Run.{Data, Spot, Way, Onward, Over, To, items, before, at_block, items_of, item_act, machine_of, way_of, held, named, branch_way, arrived, data_after, settled, first_spot, first_data, item_run, step_from}
+use Rattle.hard_items.specs.Rules.{Lawful, LawfulAt, LawfulNext, Placed, Parity, Returns, Reads}
+use Rattle.hard_items.specs.Ways.{MayFollow}
+use Rattle.hard_items.specs.Forms.{Each, Form, Alone, Product, Store, Test, Output, Takes, Idle, Close, Jump, Branch, Call, Return, Exit, form_items, close_items, check, check_if}
 use Rattle.block_schedule.specs.declared.unit.Whole.{Whole}
 use Rattle.block_schedule.specs.Scheduling.{unit_items, in_turn}
 use Rattle.block_schedule.specs.Merging.{Merge, done, first, second, leaves, leave, SameButHalves}
@@ -125,16 +125,16 @@ module _ (p : HardProgram) where
   slot = plain nop class.Act
 
   close_rests : (c : Close) (old new : List Item) → Stretched old new → Rests p (old ++ close_items c) (new ++ close_items c)
-  close_rests (Jump to) old new s = jumps old new s (Rattle.hard_code.specs.Forms.going (mips.J 0) (Block to)) slot refl (λ d. inr (to, refl)) (record { stays = refl; onward = λ d. refl }) [] [] none
-  close_rests (Branch c r true to) old new s = check_if_rests c r old new s leaving leaving (λ us vs t. jumps us vs t (Rattle.hard_code.specs.Forms.going (mips.Bne r 0 0) (Block to)) slot refl (λ d. other_to (held d r == held d 0) to) (record { stays = refl; onward = λ d. refl }) [] [] none)
+  close_rests (Jump to) old new s = jumps old new s (Rattle.hard_items.specs.Forms.going (mips.J 0) (Block to)) slot refl (λ d. inr (to, refl)) (record { stays = refl; onward = λ d. refl }) [] [] none
+  close_rests (Branch c r true to) old new s = check_if_rests c r old new s leaving leaving (λ us vs t. jumps us vs t (Rattle.hard_items.specs.Forms.going (mips.Bne r 0 0) (Block to)) slot refl (λ d. other_to (held d r == held d 0) to) (record { stays = refl; onward = λ d. refl }) [] [] none)
     where
       leaving : List Item
-      leaving = Rattle.hard_code.specs.Forms.going (mips.Bne r 0 0) (Block to) ∷ slot ∷ []
-  close_rests (Branch c r false to) old new s = check_if_rests c r old new s leaving leaving (λ us vs t. jumps us vs t (Rattle.hard_code.specs.Forms.going (mips.Beq r 0 0) (Block to)) slot refl (λ d. equal_to (held d r == held d 0) to) (record { stays = refl; onward = λ d. refl }) [] [] none)
+      leaving = Rattle.hard_items.specs.Forms.going (mips.Bne r 0 0) (Block to) ∷ slot ∷ []
+  close_rests (Branch c r false to) old new s = check_if_rests c r old new s leaving leaving (λ us vs t. jumps us vs t (Rattle.hard_items.specs.Forms.going (mips.Beq r 0 0) (Block to)) slot refl (λ d. equal_to (held d r == held d 0) to) (record { stays = refl; onward = λ d. refl }) [] [] none)
     where
       leaving : List Item
-      leaving = Rattle.hard_code.specs.Forms.going (mips.Beq r 0 0) (Block to) ∷ slot ∷ []
-  close_rests (Call f) old new s = jumps old new s (Rattle.hard_code.specs.Forms.going (mips.Jal 0) (Function f)) slot refl (λ d. inr (named p (Function f), refl)) (record { stays = refl; onward = λ d. refl }) [] [] none
+      leaving = Rattle.hard_items.specs.Forms.going (mips.Beq r 0 0) (Block to) ∷ slot ∷ []
+  close_rests (Call f) old new s = jumps old new s (Rattle.hard_items.specs.Forms.going (mips.Jal 0) (Function f)) slot refl (λ d. inr (named p (Function f), refl)) (record { stays = refl; onward = λ d. refl }) [] [] none
   close_rests (Return c) old new s = check_if_rests c 31 old new s leaving leaving (λ us vs t. jumps us vs t (plain (mips.Jr 31) class.Act) slot refl (λ d. inr (held d 31, refl)) (record { stays = refl; onward = λ d. refl }) [] [] none)
     where
       leaving : List Item
@@ -393,7 +393,7 @@ module _ (p q : HardProgram) (s : Beside_ p q) where
       subst (λ (w : Way). Alike p (arrived p h.way (way_of p t.item t.old_data t.item.instr) b t.old_more (data_after t.item a t.old_data r.0)) (arrived q h.way w b t.new_more (data_after t.item a t.new_data u.0))) (sym own)
       (t.next (data_after t.item a t.old_data r.0) (data_after t.item a t.new_data u.0) after_ (zero_kept t.item a t.new_data t.zero_)) in
       let out : Out (settled p hs t.item t.old_more a r r.0.end) (settled q ls t.item t.new_more a u u.0.end) = by_end hs ls t.item t.old_more t.new_more a r u k.output al r.0.end u.0.end k.end in
-      let both : Out ((items p).step hs) ((items q).step ls) = subst (λ (x : Act). Out ((items p).step hs) (Rattle.hard_code.specs.Run.do_item q ls t.item t.new_more x)) acts out in
+      let both : Out ((items p).step hs) ((items q).step ls) = subst (λ (x : Act). Out ((items p).step hs) (Rattle.hard_items.specs.Run.do_item q ls t.item t.new_more x)) acts out in
       let high : go (items p) h (suc t.up) ≡ record { output = put [] ((items p).step hs).1; state = ((items p).step hs).0 } = ap (λ (w : Went Spot). after w ((items p).step w.state)) t.ups in
       record {
         more = t.up;

@@ -4,9 +4,9 @@ use Rattle.std.specs.Prelude.{◌⊎◌, ◌&&◌, IsTrue, count_by}
 use Rattle.std.specs.List.{list_all}
 use Rattle.std.proofs.lemmas.List.Sums.{sum_by-cons}
 use Rattle.mips_isa.specs.declared.instr.Instr.{Instr}
-use Rattle.mips_isa.specs.Turns as words
-use Rattle.hard_code.specs.Forms.{Each}
-use Rattle.hard_code.specs.Streams.{nop}
+use Rattle.mips_text.specs.Turns as words
+use Rattle.hard_items.specs.Forms.{Each}
+use Rattle.hard_items.specs.Streams.{nop}
 
 no_true : true ≡ false → ⊥
 no_true e = cc

@@ -1,19 +1,19 @@
 -- A stretch and the stretch that stands in its place: another merge of its streams, with nops between the items.
 use Rattle.std.proofs.Common.{◌≡◌, ◌≢◌, ◌≤◌, ◌<◌, ℕ, zero, suc, ◌+◌, arith, ap, refl, sym, ◌∙◌, subst, List, [], ◌∷◌, ◌++◌, length, Bool, true, false, cond, not, inl, inr, flat_map}
 use Rattle.std.specs.Prelude.{Option, Some, None, ◌==◌}
-use Rattle.hard_words.specs.Stepping.{Leads}
+use Rattle.hard_runs.specs.Stepping.{Leads}
 use Rattle.mips_isa.specs.declared.instr.Act.{Act}
 use Rattle.mips_isa.specs.declared.instr.Act.TheVariants.{Write, Move, Both, Load, Store, Go, Link, Pass, Service, Stop}
 use Rattle.mips_isa.specs.declared.instr.End.TheVariants.{Exception}
 use Rattle.mips_isa.specs.Machine as machine
-use Rattle.hard_code.specs.declared.code.Class.{Class}
-use Rattle.hard_code.specs.declared.code.Class.TheVariants as class
-use Rattle.hard_code.specs.declared.code.Item.{Item}
-use Rattle.hard_code.specs.declared.code.HardProgram.{HardProgram}
-use Rattle.hard_code.specs.Streams.{is_stream, nop, plain}
-use Rattle.hard_code.specs.Run.{Data, Onward, items, item_act, backs_after, marked, marked_reg, makes_number}
-use Rattle.hard_code.specs.Rules.{Lawful}
-use Rattle.hard_code.specs.Forms.{Each}
+use Rattle.hard_items.specs.declared.code.Class.{Class}
+use Rattle.hard_items.specs.declared.code.Class.TheVariants as class
+use Rattle.hard_items.specs.declared.code.Item.{Item}
+use Rattle.hard_items.specs.declared.code.HardProgram.{HardProgram}
+use Rattle.hard_items.specs.Streams.{is_stream, nop, plain}
+use Rattle.hard_items.specs.Run.{Data, Onward, items, item_act, backs_after, marked, marked_reg, makes_number}
+use Rattle.hard_items.specs.Rules.{Lawful}
+use Rattle.hard_items.specs.Forms.{Each}
 use Rattle.block_schedule.specs.declared.unit.Whole.{Whole}
 use Rattle.block_schedule.specs.Scheduling.{unit_items}
 use Rattle.block_schedule.specs.Merging.{AllUnits, Merge, leaves, leave, units_leave, SameButHalves}

@@ -6,15 +6,15 @@ use Rattle.mips_isa.specs.declared.instr.Instr.{Instr}
 use Rattle.mips_isa.specs.declared.instr.Instr.TheVariants as mips
 use Rattle.mips_isa.specs.Machine.{is_jump, is_product, reads_of, writes_of, among}
 use Rattle.mips_isa.specs.Locality.{is_data, is_move}
-use Rattle.mips_isa.specs.Text.{used_of}
-use Rattle.mips_isa.specs.Turns as words
-use Rattle.hard_code.specs.declared.code.Class.{Class}
-use Rattle.hard_code.specs.declared.code.Class.TheVariants as class
-use Rattle.hard_code.specs.declared.code.Fix.TheVariants.{Block, Function}
-use Rattle.hard_code.specs.declared.code.Item.{Item}
-use Rattle.hard_code.specs.Streams.{is_master, is_shadow, is_stream, shadow_of, touched, nop, plain}
-use Rattle.hard_code.specs.Forms.{Each, Form, Alone, Product, Store, Test, Output, Takes, Idle, Close, Jump, Branch, Call, Return, Exit, form_items, close_items, FormFits, CloseFits, MayTouch, check_if, service_number, going, is_value}
-use Rattle.hard_code.specs.Counts.{free_nops, free_nops_behind}
+use Rattle.mips_text.specs.Text.{used_of}
+use Rattle.mips_text.specs.Turns as words
+use Rattle.hard_items.specs.declared.code.Class.{Class}
+use Rattle.hard_items.specs.declared.code.Class.TheVariants as class
+use Rattle.hard_items.specs.declared.code.Fix.TheVariants.{Block, Function}
+use Rattle.hard_items.specs.declared.code.Item.{Item}
+use Rattle.hard_items.specs.Streams.{is_master, is_shadow, is_stream, shadow_of, touched, nop, plain}
+use Rattle.hard_items.specs.Forms.{Each, Form, Alone, Product, Store, Test, Output, Takes, Idle, Close, Jump, Branch, Call, Return, Exit, form_items, close_items, FormFits, CloseFits, MayTouch, check_if, service_number, going, is_value}
+use Rattle.hard_items.specs.Counts.{free_nops, free_nops_behind}
 use Rattle.block_schedule.specs.declared.unit.Whole.{Whole}
 use Rattle.block_schedule.specs.declared.unit.Whole.TheVariants.{One, Two}
 use Rattle.block_schedule.specs.Scheduling.{unit_items, in_turn}

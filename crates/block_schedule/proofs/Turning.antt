@@ -3,7 +3,7 @@ use Rattle.std.proofs.Common.{◌≡◌, ◌≤◌, ◌<◌, ℕ, zero, suc, ◌
 use Rattle.std.specs.Prelude.{None, slice_get}
 use Rattle.block_schedule.specs.declared.unit.Whole.{Whole}
 use Rattle.block_schedule.specs.Scheduling.{unit_items, optional, in_turn}
-use Rattle.hard_code.specs.declared.code.Item.{Item}
+use Rattle.hard_items.specs.declared.code.Item.{Item}
 
 in_turn_nil : (ms : List Whole) → in_turn ms [] ≡ ms
 in_turn_nil [] = refl

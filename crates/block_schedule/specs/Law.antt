@@ -1,8 +1,8 @@
 -- What the new order keeps.
 use Rattle.std.specs.Prelude.{◌≡◌, ◌≤◌, length, sum_by}
-use Rattle.hard_code.specs.declared.code.HardProgram.{HardProgram}
-use Rattle.hard_code.specs.Counts.{room, reloads, branches}
-use Rattle.block_laws.specs.Counted.{HasNoFreeNop}
+use Rattle.hard_items.specs.declared.code.HardProgram.{HardProgram}
+use Rattle.hard_items.specs.Counts.{room, reloads, branches}
+use Rattle.hard_items.specs.Counted.{HasNoFreeNop}
 
 -- What is counted stays, and the room isn't raised where no nop is free.
 pub record KeepsCounts (p q : HardProgram) : Type 0 where

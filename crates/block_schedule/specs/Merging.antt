@@ -1,11 +1,11 @@
 -- For private contracts and proofs alone. Merges of two lists of whole units, and the law that all of them leave the same.
 use Rattle.std.specs.Prelude.{◌≡◌, ℕ, List, [], ◌∷◌}
 use Rattle.mips_isa.specs.Machine.{perform}
-use Rattle.hard_code.specs.declared.code.Class.{Class}
-use Rattle.hard_code.specs.declared.code.Class.TheVariants.{Master, Shadow}
-use Rattle.hard_code.specs.declared.code.Item.{Item}
-use Rattle.hard_code.specs.Run.{Data, item_act, data_after, machine_of}
-use Rattle.hard_code.specs.Forms.{StandsAlone, IsProduct}
+use Rattle.hard_items.specs.declared.code.Class.{Class}
+use Rattle.hard_items.specs.declared.code.Class.TheVariants.{Master, Shadow}
+use Rattle.hard_items.specs.declared.code.Item.{Item}
+use Rattle.hard_items.specs.Run.{Data, item_act, data_after, machine_of}
+use Rattle.hard_items.specs.Forms.{StandsAlone, IsProduct}
 use Rattle.block_schedule.specs.declared.unit.Whole.{Whole}
 use Rattle.block_schedule.specs.declared.unit.Whole.TheVariants.{One, Two}
 use Rattle.block_schedule.specs.Scheduling.{unit_items}

@@ -1,17 +1,17 @@
 //! The new order of a block and of a program.
 
 ghost use Rattle.std.specs.Prelude.{◌≡◌, IfOk, map};
-ghost use Rattle.hard_code.specs.Rules.{Apart, Guarded, NeverReports};
-ghost use Rattle.hard_code.specs.Counts.{Calm, Turned, TurnedThrough};
-ghost use Rattle.block_laws.specs.Runs.{SameRuns};
+ghost use Rattle.hard_items.specs.Rules.{Apart, Guarded, NeverReports};
+ghost use Rattle.hard_items.specs.Counts.{Calm, Turned, TurnedThrough};
+ghost use Rattle.hard_items.specs.Runs.{SameRuns};
 ghost use Rattle.block_schedule.specs.Scheduling.{scheduled, scheduled_block, scheduled_program};
-ghost use Rattle.block_laws.specs.Counted.{HasNoFreeNop, AreBusy};
+ghost use Rattle.hard_items.specs.Counted.{HasNoFreeNop, AreBusy};
 ghost use Rattle.block_schedule.specs.Law.{KeepsCounts};
 
 use crate::spaces::space;
 use crate::turns::turn;
-use hard_code::{HardBlock, HardProgram, Item, Sequence};
-use hard_words::OutOfMemory;
+use hard_items::{HardBlock, HardProgram, Item};
+use hard_words::{OutOfMemory, Sequence};
 use std::alloc::Global;
 
 /// The items of a block in the new order.

@@ -2,11 +2,11 @@
 
 ghost use Rattle.std.specs.Prelude.{◌≡◌, ◌≤◌, ◌++◌, OnOk, IfOk, replicate};
 ghost use Rattle.mips_isa.specs.Locality as locality;
-ghost use Rattle.hard_code.specs.Streams as streams;
-ghost use Rattle.hard_code.specs.Counts as counts;
+ghost use Rattle.hard_items.specs.Streams as streams;
+ghost use Rattle.hard_items.specs.Counts as counts;
 ghost use Rattle.block_schedule.specs.Scheduling as scheduling;
 
-use hard_code::{Class, Fix, Item};
+use hard_items::{Class, Fix, Item};
 use hard_words::OutOfMemory;
 use mips_isa::{Instr, is_product, reads_register};
 use std::alloc::Global;

@@ -4,7 +4,7 @@ ghost use Rattle.std.specs.Prelude.{◌≡◌, ◌++◌, [], OnOk, IfOk, flat_ma
 ghost use Rattle.block_schedule.specs.Scheduling as scheduling;
 
 use crate::unit::{Whole, units};
-use hard_code::{Class, Item};
+use hard_items::{Class, Item};
 use hard_words::OutOfMemory;
 use std::alloc::Global;
 

@@ -1,10 +1,10 @@
 //! The units of the streams.
 
 ghost use Rattle.std.specs.Prelude.{◌≡◌, ◌++◌, OnOk, IfOk, None, false};
-ghost use Rattle.hard_code.specs.Streams as streams;
+ghost use Rattle.hard_items.specs.Streams as streams;
 ghost use Rattle.block_schedule.specs.Scheduling as scheduling;
 
-use hard_code::{Class, Item};
+use hard_items::{Class, Item};
 use hard_words::OutOfMemory;
 use mips_isa::is_product;
 use std::alloc::Global;

@@ -1,8 +1,8 @@
 -- The outcome of a whole program, once its items have been walked.
 use Rattle.std.proofs.Common.{◌≡◌, ℕ, Bool, List, Ok, sym, ap, ◌∙◌}
-use Rattle.c_tree.specs.declared.tree.TopItem.{TopItem}
-use Rattle.c_tree.specs.declared.tree.Program.{Program}
-use Rattle.c_tree.specs.Meaning.{source_names}
+use Rattle.c_syntax.specs.declared.tree.TopItem.{TopItem}
+use Rattle.c_syntax.specs.declared.tree.Program.{Program}
+use Rattle.c_meaning.specs.Meaning.{source_names}
 use Rattle.check_rules.specs.declared.decl.Decl.{Decl}
 use Rattle.check_rules.specs.Fault.{◌>>=◌, ◌>>◌}
 use Rattle.check_rules.specs.Limits.{Resolved, checked, within_limits, position_or_zero}

@@ -1,17 +1,18 @@
 //! The first fault of a whole program (ISO/IEC 9899:1999; the refusals and their order are those of docs/LANGUAGE.md).
 
 ghost use Rattle.std.specs.Prelude.{◌≡◌, ◌≤◌, IfOk};
-ghost use Rattle.c_tree.specs.Meaning.{source_names};
-ghost use Rattle.c_tree.specs.Shaped.{Shaped};
-ghost use Rattle.c_tree.specs.Sizes.{program_nodes};
+ghost use Rattle.c_meaning.specs.Meaning.{source_names};
+ghost use Rattle.c_syntax.specs.Shaped.{Shaped};
+ghost use Rattle.c_syntax.specs.Sizes.{program_nodes};
 ghost use Rattle.check_rules.specs.Limits.{checked, position_or_zero};
 ghost use Rattle.check_rules.specs.Resolution.{most_nodes};
 ghost use Rattle.check_rules.specs.Scopes.{lookup};
-ghost use Rattle.check_values.specs.Gave.{Gave};
+ghost use Rattle.check_scopes.specs.Gave.{Gave};
 
-use c_tree::Program;
-use check_again::checked_again;
-use check_items::{bodies, items};
+use crate::external::items;
+use crate::names::bodies;
+use c_syntax::Program;
+use check_law::checked_again;
 use check_limits::limits;
 use check_rules::{CheckError, Checked};
 use check_scopes::Scopes;

@@ -1,13 +1,13 @@
 -- Calls of `in_word`, of `out_word` and of a function of the program.
 use Rattle.std.proofs.Common.{◌≡◌, ℕ, ◌+◌, ◌<◌, ◌≤◌, false, List, [], ◌∷◌, refl, ap, ◌∙◌, arith}
 use Rattle.std.proofs.lemmas.Bool.{ne_eqb}
-use Rattle.c_tree.specs.declared.run.Value.{Value}
-use Rattle.c_tree.specs.declared.tree.TopItem.{TopItem}
-use Rattle.c_tree.specs.Operators.{value}
-use Rattle.c_tree.specs.Run.{Outcome, Gives, Ends, pure}
-use Rattle.c_tree.specs.Graph.{functions}
-use Rattle.c_tree.specs.Meaning.{first_word}
-use Rattle.c_tree.specs.Laws.{with_words}
+use Rattle.c_meaning.specs.declared.run.Value.{Value}
+use Rattle.c_syntax.specs.declared.tree.TopItem.{TopItem}
+use Rattle.c_meaning.specs.Operators.{value}
+use Rattle.c_meaning.specs.Run.{Outcome, Gives, Ends, pure}
+use Rattle.c_syntax.specs.Graph.{functions}
+use Rattle.c_meaning.specs.Meaning.{first_word}
+use Rattle.c_meaning.specs.Laws.{with_words}
 use Rattle.eval_state.specs.State.{Held, state}
 use Rattle.eval_parts.specs.declared.part.Given.{Given}
 use Rattle.eval_parts.specs.declared.part.Given.TheVariants as given
@@ -16,8 +16,8 @@ use Rattle.eval_parts.specs.declared.part.Layer.{Layer}
 use Rattle.eval_parts.specs.Parts.{start, input_word}
 use Rattle.eval_parts.specs.Finish.{finish, ended, OutputStays}
 use Rattle.eval_parts.specs.Work.{bodies_work}
-use Rattle.eval_steps.specs.Steps.{calling}
-use Rattle.eval_steps.proofs.Lessening.{some_bodies_of}
+use Rattle.eval_parts.specs.Steps.{calling}
+use Rattle.eval_parts.proofs.Lessening.{some_bodies_of}
 use Rattle.c_eval.specs.Running.{put_first}
 use Rattle.c_eval.specs.Rest.{names_at}
 

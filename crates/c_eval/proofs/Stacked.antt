@@ -1,10 +1,10 @@
 -- A stack with a layer more.
 use Rattle.std.proofs.Common.{◌≡◌, ℕ, ◌+◌, List, [], ◌∷◌, ◌++◌, reverse, refl, ap}
 use Rattle.std.proofs.lemmas.List.{reverse-append}
-use Rattle.c_tree.specs.declared.run.EvalEnd.{EvalEnd}
-use Rattle.c_tree.specs.declared.tree.TopItem.{TopItem}
-use Rattle.c_tree.specs.Run.{Outcome, Ends, and_then}
-use Rattle.c_tree.specs.Meaning.{Names}
+use Rattle.c_meaning.specs.declared.run.EvalEnd.{EvalEnd}
+use Rattle.c_syntax.specs.declared.tree.TopItem.{TopItem}
+use Rattle.c_meaning.specs.Run.{Outcome, Ends, and_then}
+use Rattle.c_meaning.specs.Meaning.{Names}
 use Rattle.eval_parts.specs.declared.part.Given.{Given}
 use Rattle.eval_parts.specs.declared.part.Frame.{Frame}
 use Rattle.eval_parts.specs.declared.part.Layer.{Layer}

@@ -1,6 +1,6 @@
 -- Work is left as long as the run has not ended.
 use Rattle.std.proofs.Common.{◌≡◌, ℕ, suc, ◌<◌, ◌≤◌, refl, arith}
-use Rattle.c_tree.specs.declared.run.EvalEnd.{EvalEnd}
+use Rattle.c_meaning.specs.declared.run.EvalEnd.{EvalEnd}
 use Rattle.eval_parts.specs.declared.part.Now.{Now}
 use Rattle.eval_parts.specs.declared.part.Now.TheVariants as now
 use Rattle.c_eval.specs.Rest.{or_ended}

@@ -1,7 +1,7 @@
 -- What is still to come of a machine's run, and how much work is left.
 use Rattle.std.specs.Prelude.{ℕ, suc, ◌+◌, Bool, true, false, reverse, Option, Some, None}
-use Rattle.c_tree.specs.Run.{Outcome}
-use Rattle.c_tree.specs.Meaning.{Names, CRan}
+use Rattle.c_meaning.specs.Run.{Outcome}
+use Rattle.c_meaning.specs.Meaning.{Names, CRan}
 use Rattle.eval_state.specs.State.{state}
 use Rattle.eval_parts.specs.declared.part.Given.{Given}
 use Rattle.eval_parts.specs.declared.part.Now.{Now}

@@ -1,7 +1,7 @@
 -- What contracts see of a run that goes on turn by turn.
 use Rattle.std.specs.Prelude.{◌≡◌, ℕ, ◌<◌, [], ◌∷◌, Option, Some, None, Result, Ok, Err}
 use Rattle.hard_words.specs.declared.OutOfMemory.{OutOfMemory}
-use Rattle.c_tree.specs.Meaning.{CRan}
+use Rattle.c_meaning.specs.Meaning.{CRan}
 use Rattle.c_eval.specs.declared.turn.Turn.{Turn}
 use Rattle.c_eval.specs.declared.turn.Turn.TheVariants as turn
 

@@ -1,13 +1,13 @@
 //! The run of a checked program, turn by turn.
 
 ghost use Rattle.std.specs.Prelude.{IfOk};
-ghost use Rattle.c_tree.specs.Meaning.{run_of};
+ghost use Rattle.c_meaning.specs.Meaning.{run_of};
 ghost use Rattle.check_rules.specs.Limits.{resolved_names};
 ghost use Rattle.c_eval.specs.Running.{RestIs, Answers};
 
 use crate::machine::Machine;
 use crate::turn::Turn;
-use call_graph::recursive_functions;
+use c_calls::recursive_functions;
 use check_rules::Checked;
 use hard_words::OutOfMemory;
 use std::alloc::Global;

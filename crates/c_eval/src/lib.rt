@@ -5,5 +5,6 @@ mod evaluator;
 mod machine;
 mod turn;
 
+pub use c_meaning::EvalEnd;
 pub use evaluator::Evaluator;
 pub use turn::Turn;

@@ -1,19 +1,19 @@
 //! A run that stands in the middle, and its next piece of work.
 
 ghost use Rattle.std.specs.Prelude.{◌≡◌, ◌≤◌, ◌<◌, IfOk, OnErr, IsTrue};
-ghost use Rattle.c_tree.specs.Meaning.{first_word, run_of};
+ghost use Rattle.c_meaning.specs.Meaning.{first_word, run_of};
 ghost use Rattle.check_rules.specs.Limits.{resolved_names};
 ghost use Rattle.eval_parts.specs.Parts.{exit_of};
-ghost use Rattle.eval_steps.specs.Steps.{is_inner};
-ghost use Rattle.eval_steps.specs.Tables.{KnowsRecursive};
+ghost use Rattle.eval_parts.specs.Steps.{is_inner};
+ghost use Rattle.eval_parts.specs.Tables.{KnowsRecursive};
 ghost use Rattle.c_eval.specs.Running.{Turned, put_first};
 
 use crate::turn::Turn;
-use c_tree::{EvalEnd, Value};
+use c_meaning::{EvalEnd, Value};
 use check_rules::Checked;
-use eval_parts::{Given, Layer, Next, Now, ends_so, output_stays};
+use eval_parts::{Code, Given, Layer, Next, Now, ends_so, output_stays};
 use eval_state::Memory;
-use eval_steps::{Code, begin, called, next_word, resume};
+use eval_steps::{begin, called, next_word, resume};
 use sqlite_items::Items;
 use std::alloc::{AllocError, Global};
 use std::mem;

@@ -1,6 +1,6 @@
 //! What a turn of an evaluator did.
 
-use c_tree::EvalEnd;
+use c_meaning::EvalEnd;
 
 /// What a turn did.
 #[derive(Clone, Copy, Debug, PartialEq, Eq)]

@@ -5,3 +5,4 @@ pub mod Names
 pub mod Pieces
 pub mod Spelling
 pub mod Tokens
+pub mod Order

@@ -1,13 +1,1 @@
-pub mod Greatest
-pub mod Firsts
-pub mod Views
-pub mod Related
-pub mod More
-pub mod Patterns
-pub mod Native
-pub mod NativeRun
-pub mod Examples
-pub mod Output
-pub mod Levels
-pub mod Recursive
-pub mod Active
+pub mod ExampleRuns

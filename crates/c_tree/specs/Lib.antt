@@ -1,9 +1,1 @@
-pub mod Operators
-pub mod Run
-pub mod Graph
-pub mod Meaning
-pub mod Sizes
-pub mod Costs
-pub mod Shaped
-pub mod Laws
 pub mod Examples

@@ -1,22 +1,20 @@
-//! The syntax tree of the C subset, and what a program in it means by ISO/IEC 9899:1999: its output and its end for
-//! each input, as far as some fuel lasts.
+//! The syntax tree of the C subset and its meaning, handed on; and what is asked of trees off the way of compiling: depth, nodes,
+//! block cost without memory, and the examples of the meaning.
 #![tactic(auto)]
 
 mod costs;
-mod laws;
-mod operators;
-mod run;
+mod examples;
 mod sizes;
-mod tree;
 
-pub use costs::{block_cost, weight};
-pub use laws::{
-    calls_return, examples_hold, levels_agree, more_fuel, output_is_added, recursive_is_chain,
+pub use c_costs::weight;
+pub use c_meaning::{
+    EvalEnd, Flow, Place, Value, binary_type, calls_return, levels_agree, more_fuel, operate,
+    operate_unary, output_is_added, recursive_is_chain, unary_type,
 };
-pub use operators::{binary_type, operate, operate_unary, unary_type};
-pub use run::{EvalEnd, Flow, Place, Value};
-pub use sizes::{depth, nodes};
-pub use tree::{
+pub use c_syntax::{
     BinaryOp, Clause, Expr, Function, GlobalVar, Label, Local, Param, Program, Shape, Stmt,
     TopItem, Ty, UnaryOp,
 };
+pub use costs::block_cost;
+pub use examples::examples_hold;
+pub use sizes::{depth, nodes};

@@ -1,10 +1,10 @@
 -- A variable at file scope whose declaration comes after its length and its initialisers, which are walked the same before it.
 use Rattle.std.proofs.Common.{map, ◌≡◌, ℕ, zero, suc, not, ◌&&◌, nat_le, List, [], ◌∷◌, length, is_some, None, Some, Ok, refl, ap, ◌∙◌}
-use Rattle.c_tree.specs.declared.tree.Expr.{Expr}
-use Rattle.c_tree.specs.declared.tree.Shape.{Shape}
-use Rattle.c_tree.specs.declared.tree.Shape.TheVariants as shape
-use Rattle.c_tree.specs.declared.tree.GlobalVar.{GlobalVar}
-use Rattle.c_tree.specs.Meaning.{constant}
+use Rattle.c_syntax.specs.declared.tree.Expr.{Expr}
+use Rattle.c_syntax.specs.declared.tree.Shape.{Shape}
+use Rattle.c_syntax.specs.declared.tree.Shape.TheVariants as shape
+use Rattle.c_syntax.specs.declared.tree.GlobalVar.{GlobalVar}
+use Rattle.c_meaning.specs.Meaning.{constant}
 use Rattle.check_rules.specs.declared.decl.Decl.{Decl}
 use Rattle.check_rules.specs.declared.error.CheckKind.TheVariants.{BadLength}
 use Rattle.check_rules.specs.declared.names.Kind.{Kind}

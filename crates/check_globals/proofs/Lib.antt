@@ -1,1 +1,1 @@
-mod Entered
+pub mod Entered

@@ -1,10 +1,10 @@
 -- Parts of the walk of a variable at file scope (6.9.2). It serves private contracts alone.
 use Rattle.std.specs.Prelude.{ℕ, zero, suc, Bool, true, false, List}
-use Rattle.c_tree.specs.declared.tree.Ty.{Ty}
-use Rattle.c_tree.specs.declared.tree.Expr.{Expr}
-use Rattle.c_tree.specs.declared.tree.Shape.{Shape}
-use Rattle.c_tree.specs.declared.tree.Shape.TheVariants as shape
-use Rattle.c_tree.specs.Meaning.{first_or_zero}
+use Rattle.c_syntax.specs.declared.tree.Ty.{Ty}
+use Rattle.c_syntax.specs.declared.tree.Expr.{Expr}
+use Rattle.c_syntax.specs.declared.tree.Shape.{Shape}
+use Rattle.c_syntax.specs.declared.tree.Shape.TheVariants as shape
+use Rattle.c_meaning.specs.Meaning.{first_or_zero}
 use Rattle.check_rules.specs.declared.decl.Decl.{Decl}
 use Rattle.check_rules.specs.declared.decl.Decl.TheVariants as decl
 use Rattle.check_rules.specs.declared.error.CheckKind.TheVariants.{TooManyInitialisers}

@@ -2,13 +2,13 @@
 
 ghost use Rattle.std.specs.Prelude.{◌≡◌};
 ghost use Rattle.check_rules.specs.Walk.{if_there, constant_part, walk_shape, walk_initialisers};
-ghost use Rattle.check_values.specs.Gave.{Gave};
+ghost use Rattle.check_scopes.specs.Gave.{Gave};
 ghost use Rattle.check_globals.specs.Globals.{walk_initialiser};
 
-use c_tree::{Expr, Shape};
+use c_syntax::{Expr, Shape};
+use check_expressions::{constant_part, place_of, require};
 use check_rules::{CheckError, CheckKind};
 use check_scopes::Scopes;
-use check_values::{constant_part, place_of, require};
 use sqlite_items::Items;
 use std::alloc::Global;
 

@@ -1,18 +1,18 @@
 //! The walk of variables at file scope (ISO/IEC 9899:1999, 6.9.2).
 
 ghost use Rattle.std.specs.Prelude.{◌≡◌, ◌+◌, ◌≤◌, ◌^◌, ◌&&◌, nat_le, map, sum, length, OnOk};
-ghost use Rattle.c_tree.specs.Sizes.{global_nodes};
+ghost use Rattle.c_syntax.specs.Sizes.{global_nodes};
 ghost use Rattle.check_rules.specs.Walk.{elements, most_elements, kind_of_shape, walk_global, walk_globals};
-ghost use Rattle.check_values.specs.Gave.{Gave, GaveAt};
+ghost use Rattle.check_scopes.specs.Gave.{Gave, GaveAt};
 ghost use Rattle.check_globals.specs.Globals.{is_array_shape};
 
 use crate::initialisers::{initialisers, shape};
 use crate::words::{constants, declare};
-use c_tree::{Expr, GlobalVar, Shape};
+use c_constants::constant_word;
+use c_syntax::{Expr, GlobalVar, Shape};
+use check_expressions::require;
 use check_rules::{CheckError, CheckKind, Kind};
 use check_scopes::Scopes;
-use check_values::require;
-use eval_state::constant_word;
 use sqlite_items::Items;
 use std::alloc::Global;
 

@@ -1,15 +1,15 @@
 //! What a variable at file scope holds before the run (ISO/IEC 9899:1999, 6.7.8).
 
 ghost use Rattle.std.specs.Prelude.{◌≡◌, IfOk, IfErr, OnOk, map};
-ghost use Rattle.c_tree.specs.Meaning.{constant, first_or_zero};
+ghost use Rattle.c_meaning.specs.Meaning.{constant, first_or_zero};
 ghost use Rattle.check_rules.specs.declared.error.CheckError.TheVariants.{OutOfMemory};
 ghost use Rattle.check_scopes.specs.Lookup.{declared};
 ghost use Rattle.check_globals.specs.Globals.{decl_of};
 
-use c_tree::{Expr, Ty};
+use c_constants::constant_word;
+use c_syntax::{Expr, Ty};
 use check_rules::{CheckError, Decl};
 use check_scopes::Scopes;
-use eval_state::constant_word;
 use sqlite_items::Items;
 use std::alloc::Global;
 

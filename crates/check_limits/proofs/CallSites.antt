@@ -5,13 +5,13 @@ use Rattle.std.specs.Option.{option_or}
 use Rattle.std.proofs.lemmas.List.{take_more, map-append}
 use Rattle.std.proofs.lemmas.List.Concat.{flat_map-append}
 use Rattle.std.proofs.lemmas.List.Elements.{filter-append}
-use Rattle.c_tree.specs.declared.tree.BinaryOp.{BinaryOp}
-use Rattle.c_tree.specs.declared.tree.Expr.{Expr, Call, Binary, Logic, Choose, Assign, Comma}
-use Rattle.c_tree.specs.declared.tree.Clause.{Clause}
-use Rattle.c_tree.specs.declared.tree.Stmt.{Stmt}
-use Rattle.c_tree.specs.declared.tree.Stmt as stmt
-use Rattle.c_tree.specs.declared.tree.TopItem.{TopItem}
-use Rattle.c_tree.specs.Graph.{functions, functions_of, has_body}
+use Rattle.c_syntax.specs.declared.tree.BinaryOp.{BinaryOp}
+use Rattle.c_syntax.specs.declared.tree.Expr.{Expr, Call, Binary, Logic, Choose, Assign, Comma}
+use Rattle.c_syntax.specs.declared.tree.Clause.{Clause}
+use Rattle.c_syntax.specs.declared.tree.Stmt.{Stmt}
+use Rattle.c_syntax.specs.declared.tree.Stmt as stmt
+use Rattle.c_syntax.specs.declared.tree.TopItem.{TopItem}
+use Rattle.c_syntax.specs.Graph.{functions, functions_of, has_body}
 use Rattle.check_rules.specs.Limits.{CallSite, joined, of_option, calls_step, expression_calls, label_calls, statement_calls_step, clause_calls_step, statement_calls, body_calls, bodies}
 use Rattle.check_rules.proofs.Views.{at-Call, at-Binary, at-Logic, at-Choose, at-Assign, at-Comma, on-Block, on-If, on-While, on-Do, on-For, on-Switch, on-clause}
 use Rattle.check_limits.specs.Tables.{lacks, first_lacking, clause_calls}

@@ -1,12 +1,12 @@
 -- Rounds of chains of calls: each goes one call further, and where one changes nothing no later one does.
 use Rattle.std.proofs.Common.{◌≡◌, ℕ, zero, suc, ◌+◌, ◌-◌, ◌≤◌, Bool, true, false, ◌||◌, ◌==◌, List, [], ◌∷◌, map, length, get_or, Contains, inl, inr, refl, sym, ap, subst, arith}
 use Rattle.std.proofs.lemmas.Bool.{eqb-true, eq-eqb}
-use Rattle.c_tree.specs.declared.tree.TopItem.{TopItem}
-use Rattle.c_tree.specs.declared.tree.TopItem.TheVariants as item
-use Rattle.c_tree.specs.Sizes.{greatest}
-use Rattle.c_tree.specs.Graph.{functions, callees}
+use Rattle.c_syntax.specs.declared.tree.TopItem.{TopItem}
+use Rattle.c_syntax.specs.declared.tree.TopItem.TheVariants as item
+use Rattle.c_syntax.specs.Sizes.{greatest}
+use Rattle.c_syntax.specs.Graph.{functions, callees}
 use Rattle.check_rules.specs.Limits.{chain_in}
-use Rattle.call_graph.specs.Reached.{IsGraph, AreFollowed}
+use Rattle.c_calls.specs.Reached.{IsGraph, AreFollowed}
 use Rattle.check_limits.specs.Calls.{capped}
 use Rattle.check_limits.specs.Tables.{AreWeights, is_wanted, chain_over, AreFurther}
 

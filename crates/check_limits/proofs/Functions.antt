@@ -4,10 +4,10 @@ use Rattle.std.specs.List.{find}
 use Rattle.std.specs.Option.{option_or}
 use Rattle.std.proofs.lemmas.List.{take_more, drop_more, take-append-drop}
 use Rattle.std.proofs.lemmas.List.Concat.{flat_map-append}
-use Rattle.c_tree.specs.declared.tree.Function.{Function}
-use Rattle.c_tree.specs.declared.tree.TopItem.{TopItem}
-use Rattle.c_tree.specs.Costs.{function_weight}
-use Rattle.c_tree.specs.Graph.{functions, functions_of, has_body, function_named}
+use Rattle.c_syntax.specs.declared.tree.Function.{Function}
+use Rattle.c_syntax.specs.declared.tree.TopItem.{TopItem}
+use Rattle.c_syntax.specs.Costs.{function_weight}
+use Rattle.c_syntax.specs.Graph.{functions, functions_of, has_body, function_named}
 use Rattle.check_rules.specs.Limits.{bodies, most_weight, first_too_heavy}
 use Rattle.check_limits.proofs.CallSites.{bodies_more}
 

@@ -1,20 +1,20 @@
 -- Evaluating an expression where no name means anything: it gives a value and changes nothing, or ends; and it ends where it needs a variable or a function.
 use Rattle.std.proofs.Common.{◌≡◌, ℕ, Bool, true, false, List, map, Option, Some, None, Result, Ok, Err, refl, sym, ap, ◌∙◌, subst, if◌then◌else◌, not, ◌⊎◌, inl, inr}
-use Rattle.c_tree.specs.declared.run.Value.{Value}
-use Rattle.c_tree.specs.declared.run.Place.{Place}
-use Rattle.c_tree.specs.declared.run.Place.TheVariants.{Variable, Element}
-use Rattle.c_tree.specs.declared.run.EvalEnd.{EvalEnd}
+use Rattle.c_meaning.specs.declared.run.Value.{Value}
+use Rattle.c_meaning.specs.declared.run.Place.{Place}
+use Rattle.c_meaning.specs.declared.run.Place.TheVariants.{Variable, Element}
+use Rattle.c_meaning.specs.declared.run.EvalEnd.{EvalEnd}
 use Rattle.std.specs.Result.{IfOk, OnErr}
-use Rattle.c_tree.specs.declared.tree.UnaryOp.{UnaryOp}
-use Rattle.c_tree.specs.declared.tree.BinaryOp.{BinaryOp}
-use Rattle.c_tree.specs.declared.tree.Expr.{Expr, Name, Index, Call, Unary, Choose, Assign, Bump, Comma, roll-Expr, map-Expr, ind-Expr, fold-roll-Expr}
-use Rattle.c_tree.specs.declared.tree.Expr.TheOpen.{Expr-F}
-use Rattle.c_tree.specs.Operators.{converted, truth, is_zero, common, operate, operate_unary, bumped}
-use Rattle.c_tree.specs.Run.{Outcome, Gives, Ends, Run, and_then, ◌>>=◌, ◌>>◌, pure, lift, meaningless, check_index, types_now, object_type, designated}
-use Rattle.c_tree.specs.Meaning.{Meaning, fetch, store, indexed, values, tested, logic, choose, assign_with, bump, expression_step, expression, no_calls}
+use Rattle.c_syntax.specs.declared.tree.UnaryOp.{UnaryOp}
+use Rattle.c_syntax.specs.declared.tree.BinaryOp.{BinaryOp}
+use Rattle.c_syntax.specs.declared.tree.Expr.{Expr, Name, Index, Call, Unary, Choose, Assign, Bump, Comma, roll-Expr, map-Expr, ind-Expr, fold-roll-Expr}
+use Rattle.c_syntax.specs.declared.tree.Expr.TheOpen.{Expr-F}
+use Rattle.c_meaning.specs.Operators.{converted, truth, is_zero, common, operate, operate_unary, bumped}
+use Rattle.c_meaning.specs.Run.{Outcome, Gives, Ends, Run, and_then, ◌>>=◌, ◌>>◌, pure, lift, meaningless, check_index, types_now, object_type, designated}
+use Rattle.c_meaning.specs.Meaning.{Meaning, fetch, store, indexed, values, tested, logic, choose, assign_with, bump, expression_step, expression, no_calls}
 use Rattle.check_rules.specs.Walk.{has_result}
 use Rattle.check_rules.proofs.Views.{at-Name, at-Index, at-Call, at-Unary, at-Choose, at-Assign, at-Bump, at-Comma}
-use Rattle.check_values.specs.Constant.{nowhere, constant_outcome}
+use Rattle.check_expressions.specs.Constant.{nowhere, constant_outcome}
 
 -- nothing is changed, where there is a result
 abbrev pub Still : {A : Type 0} → Outcome A → Type 0

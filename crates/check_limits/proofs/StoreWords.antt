@@ -2,14 +2,14 @@
 use Rattle.std.proofs.Common.{◌≡◌, ◌≢◌, ℕ, ◌-◌, ◌^◌, ◌+◌, ◌*◌, ◌<◌, max, min, Bool, true, false, not, ◌&&◌, ◌||◌, ◌==◌, cond, if◌then◌else◌, List, [], ◌∷◌, ◌++◌, map, sum, take, length, get_or, refl, sym, ap, ◌∙◌, arith}
 use Rattle.std.specs.List.{filter}
 use Rattle.std.proofs.lemmas.List.Elements.{filter-append}
-use Rattle.c_tree.specs.declared.tree.Function.{Function}
-use Rattle.c_tree.specs.declared.tree.TopItem.{TopItem}
-use Rattle.c_tree.specs.Sizes.{greatest}
-use Rattle.c_tree.specs.Costs.{function_weight}
-use Rattle.c_tree.specs.Graph.{is_recursive}
-use Rattle.c_tree.specs.Meaning.{Names, source_names}
+use Rattle.c_syntax.specs.declared.tree.Function.{Function}
+use Rattle.c_syntax.specs.declared.tree.TopItem.{TopItem}
+use Rattle.c_syntax.specs.Sizes.{greatest}
+use Rattle.c_syntax.specs.Costs.{function_weight}
+use Rattle.c_syntax.specs.Graph.{is_recursive}
+use Rattle.c_meaning.specs.Meaning.{Names, source_names}
 use Rattle.check_rules.specs.Limits.{bodies, chain, reaches, reached, global_pairs, store_of, store}
-use Rattle.call_graph.specs.Reached.{AreRecursive, AreReached}
+use Rattle.c_calls.specs.Reached.{AreRecursive, AreReached}
 use Rattle.check_limits.specs.Calls.{capped, reached_from, counter_pairs, call_pairs_of, call_pairs}
 use Rattle.check_limits.specs.Tables.{chosen}
 use Rattle.check_limits.proofs.CallSites.{bodies_more}

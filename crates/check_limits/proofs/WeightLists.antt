@@ -3,11 +3,11 @@ use Rattle.std.proofs.Common.{◌≡◌, ℕ, ◌+◌, ◌-◌, ◌<◌, ◌≤�
 use Rattle.std.specs.List.{find, flat_map}
 use Rattle.std.proofs.lemmas.List.{drop_more}
 use Rattle.std.proofs.lemmas.Bool.{eqb-true}
-use Rattle.c_tree.specs.declared.tree.Function.{Function}
-use Rattle.c_tree.specs.declared.tree.TopItem.{TopItem}
-use Rattle.c_tree.specs.Graph.{function_named}
-use Rattle.c_tree.specs.Costs.{function_weight}
-use Rattle.c_tree.specs.Meaning.{source_names}
+use Rattle.c_syntax.specs.declared.tree.Function.{Function}
+use Rattle.c_syntax.specs.declared.tree.TopItem.{TopItem}
+use Rattle.c_syntax.specs.Graph.{function_named}
+use Rattle.c_syntax.specs.Costs.{function_weight}
+use Rattle.c_meaning.specs.Meaning.{source_names}
 use Rattle.check_rules.specs.Limits.{CallSite, lacks_body, first_without_body, body_calls, bodies}
 use Rattle.check_rules.specs.Walk.{has_body_in}
 use Rattle.check_limits.specs.Calls.{capped}

@@ -1,10 +1,10 @@
 -- The pairs that the chains of calls from a function take at most (the project's own; ISO/IEC 9899:1999, 5.2.4.1).
 use Rattle.std.specs.Prelude.{ℕ, ◌+◌, ◌-◌, ◌*◌, ◌^◌, min, Bool, true, false, not, ◌&&◌, ◌||◌, ◌==◌, if◌then◌else◌, List, [], ◌∷◌, map, filter, sum}
-use Rattle.c_tree.specs.declared.tree.Function.{Function}
-use Rattle.c_tree.specs.declared.tree.TopItem.{TopItem}
-use Rattle.c_tree.specs.Sizes.{greatest}
-use Rattle.c_tree.specs.Costs.{function_weight}
-use Rattle.c_tree.specs.Graph.{is_recursive}
+use Rattle.c_syntax.specs.declared.tree.Function.{Function}
+use Rattle.c_syntax.specs.declared.tree.TopItem.{TopItem}
+use Rattle.c_syntax.specs.Sizes.{greatest}
+use Rattle.c_syntax.specs.Costs.{function_weight}
+use Rattle.c_syntax.specs.Graph.{is_recursive}
 use Rattle.check_rules.specs.Limits.{bodies, reaches, chain}
 
 -- a number as far as 64 bits go

@@ -1,10 +1,10 @@
 -- What is looked up by names after the walk, for private contracts alone.
 use Rattle.std.specs.Prelude.{◌≡◌, ℕ, zero, suc, ◌+◌, Bool, true, false, not, ◌&&◌, ◌||◌, ◌==◌, if◌then◌else◌, List, [], ◌∷◌, map, filter, Option, Some, None}
 use Rattle.std.specs.Prelude.{slice_index_or}
-use Rattle.c_tree.specs.declared.tree.Function.{Function}
-use Rattle.c_tree.specs.declared.tree.TopItem.{TopItem}
-use Rattle.c_tree.specs.declared.tree.Clause.{Clause, fold-Clause}
-use Rattle.c_tree.specs.Sizes.{greatest}
+use Rattle.c_syntax.specs.declared.tree.Function.{Function}
+use Rattle.c_syntax.specs.declared.tree.TopItem.{TopItem}
+use Rattle.c_syntax.specs.declared.tree.Clause.{Clause, fold-Clause}
+use Rattle.c_syntax.specs.Sizes.{greatest}
 use Rattle.check_limits.specs.Calls.{capped}
 use Rattle.check_rules.specs.Limits.{CallSite, statement_calls_step, clause_calls_step, bodies, weight_named}
 

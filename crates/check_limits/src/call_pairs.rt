@@ -2,15 +2,16 @@
 
 ghost use Rattle.std.specs.Prelude.{◌≡◌, ◌+◌, ◌-◌, ◌^◌, ◌==◌, ◌&&◌, ◌||◌, not, false, true, if◌then◌else◌, [], ◌∷◌, map, sum, min, slice_index_or, IfOk, option_to_list};
 ghost use Rattle.std.specs.Option.{option_copied};
-ghost use Rattle.c_tree.specs.Sizes.{greatest};
-ghost use Rattle.c_tree.specs.Costs.{function_weight};
+ghost use Rattle.c_syntax.specs.Sizes.{greatest};
+ghost use Rattle.c_syntax.specs.Costs.{function_weight};
 ghost use Rattle.check_limits.specs.Calls.{capped, reached_from, counter_pairs, call_pairs};
 ghost use Rattle.check_limits.specs.Tables.{chosen, AreWeights};
 
 use crate::chains::{count_functions, heaviest_chain, holds_under};
 use crate::weights::weights_of;
-use c_tree::{Function, TopItem, weight};
-use call_graph::{call_graph, reached_from, recursive_in};
+use c_calls::{call_graph, reached_from, recursive_in};
+use c_costs::weight;
+use c_syntax::{Function, TopItem};
 use hard_words::OutOfMemory;
 use std::alloc::Global;
 

@@ -5,7 +5,7 @@ ghost use Rattle.check_rules.specs.Limits.{CallSite, joined, of_option, bodies, 
 ghost use Rattle.check_limits.specs.Tables.{lacks, first_lacking, clause_calls};
 
 use crate::weights::weight_under;
-use c_tree::{Clause, Expr, Label, Local, Stmt, TopItem};
+use c_syntax::{Clause, Expr, Label, Local, Stmt, TopItem};
 
 // Whether a function is neither there before the text nor has a weight.
 fn lacks(weights: &[u64], name: u32) -> bool

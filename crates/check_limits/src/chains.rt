@@ -1,15 +1,15 @@
 //! The greatest weight of a chain of calls.
 
 ghost use Rattle.std.specs.Prelude.{◌≡◌, ◌+◌, ◌-◌, ◌^◌, ℕ, [], map, min, length, slice_index_or, true, false, ◌∷◌, IfOk};
-ghost use Rattle.c_tree.specs.Sizes.{greatest};
-ghost use Rattle.c_tree.specs.Graph.{functions};
-ghost use Rattle.call_graph.specs.Reached.{AreFollowed};
+ghost use Rattle.c_syntax.specs.Sizes.{greatest};
+ghost use Rattle.c_syntax.specs.Graph.{functions};
+ghost use Rattle.c_calls.specs.Reached.{AreFollowed};
 ghost use Rattle.check_limits.specs.Calls.{capped};
 ghost use Rattle.check_limits.specs.Tables.{is_wanted, chain_over, AreFurther};
 
 use crate::weights::weight_under;
-use c_tree::TopItem;
-use call_graph::CallGraph;
+use c_calls::CallGraph;
+use c_syntax::TopItem;
 use hard_words::OutOfMemory;
 use sqlite_items::Items;
 use std::alloc::Global;

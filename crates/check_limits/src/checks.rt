@@ -2,24 +2,24 @@
 
 ghost use Rattle.std.specs.Prelude.{◌≡◌, IsTrue, ◌↔◌, All, Option, not, nat_lt};
 ghost use Rattle.std.specs.Result.{IsOk};
-ghost use Rattle.c_tree.specs.Costs.{program_cost};
-ghost use Rattle.c_tree.specs.Graph.{function_named};
-ghost use Rattle.c_tree.specs.Meaning.{source_names};
+ghost use Rattle.c_syntax.specs.Costs.{program_cost};
+ghost use Rattle.c_syntax.specs.Graph.{function_named};
+ghost use Rattle.c_meaning.specs.Meaning.{source_names};
 ghost use Rattle.check_rules.specs.Fault.{refuse, require};
 ghost use Rattle.check_rules.specs.Walk.{walk_program};
 ghost use Rattle.check_rules.specs.Limits.{first_without_body, is_main, first_too_heavy, most_cost, most_store, store, within_limits};
 ghost use Rattle.check_rules.specs.declared.error.CheckKind.TheVariants.{NoBody, NoMain, FrameTooLarge, TooManyBlocks, StoreTooLarge};
-ghost use Rattle.check_values.specs.Gave.{Gave};
+ghost use Rattle.check_scopes.specs.Gave.{Gave};
 ghost use Rattle.check_limits.specs.Tables.{AreWeights};
 
 use crate::calls::in_items;
 use crate::main_function::{has_main, heavy};
 use crate::store::words_of_store;
 use crate::weights::weights_of;
-use block_costs::block_cost;
-use c_tree::{Program, TopItem};
+use c_costs::block_cost;
+use c_syntax::{Program, TopItem};
+use check_expressions::require;
 use check_rules::{CheckError, CheckKind};
-use check_values::require;
 use std::alloc::Global;
 
 fn refuse(at: Option<u32>, kind: CheckKind) -> Result<(), CheckError>

@@ -1,13 +1,14 @@
 //! The words of constant expressions (ISO/IEC 9899:1999, 6.6).
 
 ghost use Rattle.std.specs.Prelude.{◌≡◌, false, true, IfOk, OnErr};
-ghost use Rattle.c_tree.specs.Meaning.{constant, expression, no_calls, binary, logic, choose};
-ghost use Rattle.c_tree.specs.Operators.{truth, common};
-ghost use Rattle.c_tree.specs.Run.{Gives, and_then};
+ghost use Rattle.c_meaning.specs.Meaning.{constant, expression, no_calls, binary, logic, choose};
+ghost use Rattle.c_meaning.specs.Operators.{truth, common};
+ghost use Rattle.c_meaning.specs.Run.{Gives, and_then};
 ghost use Rattle.check_rules.specs.Walk.{has_result};
-ghost use Rattle.check_values.specs.Constant.{nowhere, constant_outcome, constant_type};
+ghost use Rattle.check_expressions.specs.Constant.{nowhere, constant_outcome, constant_type};
 
-use c_tree::{BinaryOp, EvalEnd, Expr, Value, binary_type, operate, operate_unary, unary_type};
+use c_meaning::{EvalEnd, Value, binary_type, operate, operate_unary, unary_type};
+use c_syntax::{BinaryOp, Expr};
 
 // Whether the type of an expression is unsigned, where no name means anything.
 fn type_of(e: &Expr) -> bool

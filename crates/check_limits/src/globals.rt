@@ -6,7 +6,7 @@ ghost use Rattle.check_rules.specs.Limits.{item_pairs, global_pairs};
 ghost use Rattle.check_limits.specs.Calls.{capped};
 
 use crate::constants::word;
-use c_tree::{GlobalVar, Shape, TopItem};
+use c_syntax::{GlobalVar, Shape, TopItem};
 
 fn pairs_of_global(global: &GlobalVar) -> u64
     ensures { result ≡ capped (elements global.now.shape global.now.first) }

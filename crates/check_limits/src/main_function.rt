@@ -2,12 +2,13 @@
 
 ghost use Rattle.std.specs.Prelude.{◌≡◌, [], ◌∷◌};
 ghost use Rattle.std.specs.Option.{option_copied};
-ghost use Rattle.c_tree.specs.Graph.{function_named};
-ghost use Rattle.c_tree.specs.declared.tree.Ty.TheVariants.{Int};
+ghost use Rattle.c_syntax.specs.Graph.{function_named};
+ghost use Rattle.c_syntax.specs.declared.tree.Ty.TheVariants.{Int};
 ghost use Rattle.check_rules.specs.Walk.{same_type};
 ghost use Rattle.check_rules.specs.Limits.{is_main, first_too_heavy};
 
-use c_tree::{Function, TopItem, Ty, weight};
+use c_costs::weight;
+use c_syntax::{Function, TopItem, Ty};
 
 // The function of an item, if it has a body and this name.
 fn named(item: &TopItem, name: u32) -> Option<&Function>

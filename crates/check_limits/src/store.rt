@@ -1,14 +1,14 @@
 //! The words of the store that a program needs.
 
 ghost use Rattle.std.specs.Prelude.{◌≡◌, IfOk};
-ghost use Rattle.c_tree.specs.Meaning.{source_names};
+ghost use Rattle.c_meaning.specs.Meaning.{source_names};
 ghost use Rattle.check_rules.specs.Limits.{store};
 ghost use Rattle.check_limits.specs.Calls.{capped};
 ghost use Rattle.check_limits.specs.Tables.{AreWeights};
 
 use crate::call_pairs::call_pairs;
 use crate::globals::pairs_of_items;
-use c_tree::TopItem;
+use c_syntax::TopItem;
 use hard_words::OutOfMemory;
 use std::alloc::Global;
 

@@ -1,10 +1,11 @@
 //! The weights of functions, under their names.
 
 ghost use Rattle.std.specs.Prelude.{◌≡◌, ◌<◌, ◌≤◌, ◌^◌, ◌-◌, ℕ, List, ◌∷◌, min, length, slice_index_or, IfOk, OnOk};
-ghost use Rattle.c_tree.specs.declared.tree.TopItem.{TopItem as Item};
+ghost use Rattle.c_syntax.specs.declared.tree.TopItem.{TopItem as Item};
 ghost use Rattle.check_limits.specs.Tables.{AreWeights};
 
-use c_tree::{TopItem, weight};
+use c_costs::weight;
+use c_syntax::TopItem;
 use hard_words::OutOfMemory;
 use sqlite_items::Items;
 use std::alloc::Global;

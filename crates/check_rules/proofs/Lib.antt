@@ -1,12 +1,1 @@
-pub mod Yields
-pub mod Sims
 pub mod Views
-pub mod ExpressionRuns
-pub mod Positions
-pub mod Cells
-pub mod Holds
-pub mod Unchanged
-pub mod Calls
-pub mod StatementRuns
-pub mod ItemRuns
-pub mod ProgramRuns

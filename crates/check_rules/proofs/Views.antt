@@ -1,17 +1,17 @@
 -- A fold at each constructor of an expression and of a statement.
 use Rattle.std.proofs.Common.{◌≡◌, ℕ, Bool, List, map, Option, Some, None, sym, ap, ◌∙◌, option_map}
-use Rattle.c_tree.specs.declared.tree.UnaryOp.{UnaryOp}
-use Rattle.c_tree.specs.declared.tree.BinaryOp.{BinaryOp}
-use Rattle.c_tree.specs.declared.tree.Expr.{Expr, Literal, Name, Index, Call, Unary, Binary, Logic, Choose, Assign, Bump, Comma, Paren, fold-Expr, fold-roll-Expr}
-use Rattle.c_tree.specs.declared.tree.Expr.TheOpen.{Expr-F}
-use Rattle.c_tree.specs.declared.tree.Expr.TheVariants.{rolls-Literal, rolls-Name, rolls-Index, rolls-Call, rolls-Unary, rolls-Binary, rolls-Logic, rolls-Choose, rolls-Assign, rolls-Bump, rolls-Comma, rolls-Paren}
-use Rattle.c_tree.specs.declared.tree.Local.{Local}
-use Rattle.c_tree.specs.declared.tree.Label.{Label}
-use Rattle.c_tree.specs.declared.tree.Clause.{Clause, fold-Clause, fold-roll-Clause}
-use Rattle.c_tree.specs.declared.tree.Stmt.{Stmt, fold-Stmt, fold-roll-Stmt}
-use Rattle.c_tree.specs.declared.tree.Stmt as stmt
-use Rattle.c_tree.specs.declared.tree.Stmt.TheOpen.{Stmt-F, Clause-F}
-use Rattle.c_tree.specs.declared.tree.Stmt.TheVariants.{rolls-Empty, rolls-Value, rolls-Declare, rolls-Block, rolls-If, rolls-While, rolls-Do, rolls-For, rolls-Switch, rolls-Break, rolls-Continue, rolls-Return}
+use Rattle.c_syntax.specs.declared.tree.UnaryOp.{UnaryOp}
+use Rattle.c_syntax.specs.declared.tree.BinaryOp.{BinaryOp}
+use Rattle.c_syntax.specs.declared.tree.Expr.{Expr, Literal, Name, Index, Call, Unary, Binary, Logic, Choose, Assign, Bump, Comma, Paren, fold-Expr, fold-roll-Expr}
+use Rattle.c_syntax.specs.declared.tree.Expr.TheOpen.{Expr-F}
+use Rattle.c_syntax.specs.declared.tree.Expr.TheVariants.{rolls-Literal, rolls-Name, rolls-Index, rolls-Call, rolls-Unary, rolls-Binary, rolls-Logic, rolls-Choose, rolls-Assign, rolls-Bump, rolls-Comma, rolls-Paren}
+use Rattle.c_syntax.specs.declared.tree.Local.{Local}
+use Rattle.c_syntax.specs.declared.tree.Label.{Label}
+use Rattle.c_syntax.specs.declared.tree.Clause.{Clause, fold-Clause, fold-roll-Clause}
+use Rattle.c_syntax.specs.declared.tree.Stmt.{Stmt, fold-Stmt, fold-roll-Stmt}
+use Rattle.c_syntax.specs.declared.tree.Stmt as stmt
+use Rattle.c_syntax.specs.declared.tree.Stmt.TheOpen.{Stmt-F, Clause-F}
+use Rattle.c_syntax.specs.declared.tree.Stmt.TheVariants.{rolls-Empty, rolls-Value, rolls-Declare, rolls-Block, rolls-If, rolls-While, rolls-Do, rolls-For, rolls-Switch, rolls-Break, rolls-Continue, rolls-Return}
 
 module _ (A : Type 0) (step : Expr-F A → A) where
   abbrev over : Expr → A

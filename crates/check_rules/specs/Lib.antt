@@ -3,3 +3,4 @@ pub mod Scopes
 pub mod Walk
 pub mod Limits
 pub mod Resolution
+pub mod Leaf

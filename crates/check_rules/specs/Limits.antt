@@ -2,22 +2,22 @@
 -- project's own (ISO/IEC 9899:1999, 5.2.4.1).
 use Rattle.std.specs.Prelude.{ℕ, zero, suc, ◌+◌, ◌*◌, Bool, true, false, not, ◌&&◌, ◌||◌, if◌then◌else◌, ◌==◌, nat_lt, List, [], ◌∷◌, ◌++◌, map, filter, find}
 use Rattle.std.specs.Prelude.{flat_map, sum, length, Option, Some, None, Ok, Err}
-use Rattle.c_tree.specs.declared.tree.Ty.TheVariants.{Int}
-use Rattle.c_tree.specs.declared.tree.Expr.{Expr, fold-Expr}
-use Rattle.c_tree.specs.declared.tree.Expr.TheOpen.{Expr-F}
-use Rattle.c_tree.specs.declared.tree.Local.{Local}
-use Rattle.c_tree.specs.declared.tree.Stmt.{Stmt, fold-Stmt}
-use Rattle.c_tree.specs.declared.tree.Stmt.TheOpen.{Stmt-F, Clause-F}
-use Rattle.c_tree.specs.declared.tree.Label.{Label}
-use Rattle.c_tree.specs.declared.tree.Label.TheVariants as label
-use Rattle.c_tree.specs.declared.tree.Function.{Function}
-use Rattle.c_tree.specs.declared.tree.TopItem.{TopItem}
-use Rattle.c_tree.specs.declared.tree.TopItem.TheVariants as item
-use Rattle.c_tree.specs.declared.tree.Program.{Program}
-use Rattle.c_tree.specs.Sizes.{greatest}
-use Rattle.c_tree.specs.Costs.{function_weight, program_cost}
-use Rattle.c_tree.specs.Graph.{functions, function_named, has_body, body_of, callees, leads, is_recursive}
-use Rattle.c_tree.specs.Meaning.{Names}
+use Rattle.c_syntax.specs.declared.tree.Ty.TheVariants.{Int}
+use Rattle.c_syntax.specs.declared.tree.Expr.{Expr, fold-Expr}
+use Rattle.c_syntax.specs.declared.tree.Expr.TheOpen.{Expr-F}
+use Rattle.c_syntax.specs.declared.tree.Local.{Local}
+use Rattle.c_syntax.specs.declared.tree.Stmt.{Stmt, fold-Stmt}
+use Rattle.c_syntax.specs.declared.tree.Stmt.TheOpen.{Stmt-F, Clause-F}
+use Rattle.c_syntax.specs.declared.tree.Label.{Label}
+use Rattle.c_syntax.specs.declared.tree.Label.TheVariants as label
+use Rattle.c_syntax.specs.declared.tree.Function.{Function}
+use Rattle.c_syntax.specs.declared.tree.TopItem.{TopItem}
+use Rattle.c_syntax.specs.declared.tree.TopItem.TheVariants as item
+use Rattle.c_syntax.specs.declared.tree.Program.{Program}
+use Rattle.c_syntax.specs.Sizes.{greatest}
+use Rattle.c_syntax.specs.Costs.{function_weight, program_cost}
+use Rattle.c_syntax.specs.Graph.{functions, function_named, has_body, body_of, callees, leads, is_recursive}
+use Rattle.c_meaning.specs.Meaning.{Names}
 use Rattle.check_rules.specs.declared.error.CheckKind.TheVariants.{NoBody, NoMain, FrameTooLarge, TooManyBlocks, StoreTooLarge}
 use Rattle.check_rules.specs.declared.decl.Decl.{Decl}
 use Rattle.check_rules.specs.Fault.{Fault, Walk, ◌>>=◌, ◌>>◌, require, refuse}

@@ -1,9 +1,9 @@
 -- That the names of a program can be replaced by positions, and what holds of the program after that.
 use Rattle.std.specs.Prelude.{◌≡◌, ℕ, ◌≤◌, List, None, Ok}
-use Rattle.c_tree.specs.declared.tree.Program.{Program}
-use Rattle.c_tree.specs.Shaped.{Shaped}
-use Rattle.c_tree.specs.Sizes.{program_nodes}
-use Rattle.c_tree.specs.Meaning.{run_of, c_run, source_names}
+use Rattle.c_syntax.specs.declared.tree.Program.{Program}
+use Rattle.c_syntax.specs.Shaped.{Shaped}
+use Rattle.c_syntax.specs.Sizes.{program_nodes}
+use Rattle.c_meaning.specs.Meaning.{run_of, c_run, source_names}
 use Rattle.check_rules.specs.Limits.{Resolved, checked, first_fault, resolved_names}
 
 -- a program without fault and the program whose names are positions have the same run, for every input and every fuel

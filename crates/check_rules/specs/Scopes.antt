@@ -1,7 +1,7 @@
 -- Scopes of names (ISO/IEC 9899:1999, 6.2.1): the file; a function's parameters together with its outermost block; each inner block; each
 -- `for`.
 use Rattle.std.specs.Prelude.{ℕ, Bool, true, not, List, [], ◌∷◌, ◌++◌, length, Option, Some, None, if◌then◌else◌, ◌==◌, is_some}
-use Rattle.c_tree.specs.Run.{or_else, without_first}
+use Rattle.c_meaning.specs.Run.{or_else, without_first}
 use Rattle.check_rules.specs.declared.decl.Decl.{Decl}
 pub use Rattle.check_rules.specs.declared.names.Kind.{Kind}
 pub use Rattle.check_rules.specs.declared.names.Kind.TheVariants.{Scalar, Array, Function}

@@ -2,28 +2,28 @@
 -- declaration, up to the first fault that it meets (the constraints of ISO/IEC 9899:1999, 6.5 to 6.9; the limits are the project's own).
 use Rattle.std.specs.Prelude.{ℕ, zero, suc, Bool, true, false, not, ◌&&◌, ◌||◌, if◌then◌else◌, ◌==◌, nat_le, List, [], ◌∷◌, ◌++◌, map, length, Option, Some}
 use Rattle.std.specs.Prelude.{None, is_some, Ok}
-use Rattle.c_tree.specs.declared.tree.Ty.{Ty}
-use Rattle.c_tree.specs.declared.tree.Ty.TheVariants.{Int, Unsigned, Void}
-use Rattle.c_tree.specs.declared.tree.Expr.{Expr, Literal, Name, Index, Call, Unary, Binary, Logic, Choose, Assign, Bump, Comma, Paren, fold-Expr}
-use Rattle.c_tree.specs.declared.tree.Expr.TheOpen.{Expr-F}
-use Rattle.c_tree.specs.declared.tree.Local.{Local}
-use Rattle.c_tree.specs.declared.tree.Stmt.{Stmt, fold-Stmt}
-use Rattle.c_tree.specs.declared.tree.Stmt as stmt
-use Rattle.c_tree.specs.declared.tree.Stmt.TheOpen.{Stmt-F, Clause-F}
-use Rattle.c_tree.specs.declared.tree.Label.{Label}
-use Rattle.c_tree.specs.declared.tree.Label.TheVariants as label
-use Rattle.c_tree.specs.declared.tree.Clause.{Clause, fold-Clause}
-use Rattle.c_tree.specs.declared.tree.Shape.{Shape}
-use Rattle.c_tree.specs.declared.tree.Shape.TheVariants as shape
-use Rattle.c_tree.specs.declared.tree.GlobalVar.{GlobalVar}
-use Rattle.c_tree.specs.declared.tree.Param.{Param}
-use Rattle.c_tree.specs.declared.tree.Function.{Function}
-use Rattle.c_tree.specs.declared.tree.TopItem.{TopItem}
-use Rattle.c_tree.specs.declared.tree.TopItem.TheVariants as item
-use Rattle.c_tree.specs.declared.tree.Program.{Program}
-use Rattle.c_tree.specs.Run.{Outcome, Gives, Ends}
-use Rattle.c_tree.specs.Graph.{has_body, function_named}
-use Rattle.c_tree.specs.Meaning.{expression, no_calls, constant, padded, first_or_zero, Names}
+use Rattle.c_syntax.specs.declared.tree.Ty.{Ty}
+use Rattle.c_syntax.specs.declared.tree.Ty.TheVariants.{Int, Unsigned, Void}
+use Rattle.c_syntax.specs.declared.tree.Expr.{Expr, Literal, Name, Index, Call, Unary, Binary, Logic, Choose, Assign, Bump, Comma, Paren, fold-Expr}
+use Rattle.c_syntax.specs.declared.tree.Expr.TheOpen.{Expr-F}
+use Rattle.c_syntax.specs.declared.tree.Local.{Local}
+use Rattle.c_syntax.specs.declared.tree.Stmt.{Stmt, fold-Stmt}
+use Rattle.c_syntax.specs.declared.tree.Stmt as stmt
+use Rattle.c_syntax.specs.declared.tree.Stmt.TheOpen.{Stmt-F, Clause-F}
+use Rattle.c_syntax.specs.declared.tree.Label.{Label}
+use Rattle.c_syntax.specs.declared.tree.Label.TheVariants as label
+use Rattle.c_syntax.specs.declared.tree.Clause.{Clause, fold-Clause}
+use Rattle.c_syntax.specs.declared.tree.Shape.{Shape}
+use Rattle.c_syntax.specs.declared.tree.Shape.TheVariants as shape
+use Rattle.c_syntax.specs.declared.tree.GlobalVar.{GlobalVar}
+use Rattle.c_syntax.specs.declared.tree.Param.{Param}
+use Rattle.c_syntax.specs.declared.tree.Function.{Function}
+use Rattle.c_syntax.specs.declared.tree.TopItem.{TopItem}
+use Rattle.c_syntax.specs.declared.tree.TopItem.TheVariants as item
+use Rattle.c_syntax.specs.declared.tree.Program.{Program}
+use Rattle.c_meaning.specs.Run.{Outcome, Gives, Ends}
+use Rattle.c_syntax.specs.Graph.{has_body, function_named}
+use Rattle.c_meaning.specs.Meaning.{expression, no_calls, constant, padded, first_or_zero, Names}
 use Rattle.check_rules.specs.declared.error.CheckKind.{CheckKind}
 use Rattle.check_rules.specs.declared.error.CheckKind.TheVariants.{NameTwice, PrototypeDiffers, BadLength, NotConstant, TooManyInitialisers, NameUnknown}
 use Rattle.check_rules.specs.declared.error.CheckKind.TheVariants.{NotAFunction, NotAnArray, NotScalar, ArgCount, VoidUsed, NotAssignable, BadReturn}

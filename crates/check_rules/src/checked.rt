@@ -5,7 +5,7 @@ ghost use Rattle.check_rules.specs.Limits.{Resolved};
 ghost use Rattle.check_rules.specs.Resolution.{IsChecked};
 
 use crate::decl::Decl;
-use c_tree::Program;
+use c_syntax::Program;
 use sqlite_items::Items;
 use std::marker::Model;
 
@@ -20,9 +20,9 @@ pub struct Checked {
 impl Model for Checked {
     ghost use Rattle.check_rules.specs.Limits.{Resolved};
     ghost use Rattle.check_rules.specs.Resolution.{IsChecked};
-    ghost use Rattle.c_tree.specs.contracts.tree.Expr as e;
-    ghost use Rattle.c_tree.specs.contracts.tree.Stmt as s;
-    ghost use Rattle.c_tree.specs.contracts.tree.Clause as c;
+    ghost use Rattle.c_syntax.specs.contracts.tree.Expr as e;
+    ghost use Rattle.c_syntax.specs.contracts.tree.Stmt as s;
+    ghost use Rattle.c_syntax.specs.contracts.tree.Clause as c;
     ghost use Rattle.std.specs.Coded.{codes};
 
     ghost Value = { Resolved };

@@ -1,6 +1,6 @@
 //! What a declaration declares.
 
-use c_tree::Ty;
+use c_syntax::Ty;
 use hard_words::Words;
 use sqlite_items::Items;
 

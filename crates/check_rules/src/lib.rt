@@ -5,11 +5,9 @@
 mod checked;
 mod decl;
 mod error;
-mod laws;
 mod names;
 
 pub use checked::Checked;
 pub use decl::Decl;
 pub use error::{CheckError, CheckKind};
-pub use laws::same_run;
 pub use names::{Around, Binding, Kind, Known};

@@ -1,6 +1,6 @@
 //! What a name designates, and what stands around a statement.
 
-use c_tree::Ty;
+use c_syntax::Ty;
 use sqlite_items::Items;
 
 /// What a name designates (ISO/IEC 9899:1999, 6.2.1).

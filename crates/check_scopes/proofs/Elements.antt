@@ -1,6 +1,6 @@
 -- The words of an array's elements, one by one.
 use Rattle.std.proofs.Common.{◌≡◌, ℕ, zero, suc, ◌+◌, List, [], ◌∷◌, ◌++◌, get_or, refl, sym, ap, ◌∙◌, add-one}
-use Rattle.c_tree.specs.Meaning.{padded}
+use Rattle.c_meaning.specs.Meaning.{padded}
 
 one_element : (i : ℕ) (ws : List ℕ) → padded (suc i) ws ≡ padded i ws ++ get_or ws i 0 ∷ []
 one_element zero [] = refl

@@ -1,2 +1,3 @@
-mod Places
-mod Elements
+pub mod Places
+pub mod Elements
+pub mod Turns

@@ -1,7 +1,7 @@
 -- Declarations whose arrays hold only what was written of them.
 use Rattle.std.specs.Prelude.{ℕ, Bool, List}
-use Rattle.c_tree.specs.declared.tree.Ty.{Ty}
-use Rattle.c_tree.specs.Meaning.{padded}
+use Rattle.c_syntax.specs.declared.tree.Ty.{Ty}
+use Rattle.c_meaning.specs.Meaning.{padded}
 use Rattle.check_rules.specs.declared.decl.Decl.{Decl}
 use Rattle.check_rules.specs.declared.decl.Decl.TheVariants as decl
 use Rattle.check_scopes.specs.declared.pending.Pending.{Pending}

@@ -2,11 +2,11 @@
 //! memory for, so the others are added once the text is found to be within its limits.
 
 ghost use Rattle.std.specs.Prelude.{◌≡◌, map, IfOk, IfErr, slice_index};
-ghost use Rattle.c_tree.specs.Meaning.{padded};
+ghost use Rattle.c_meaning.specs.Meaning.{padded};
 ghost use Rattle.check_rules.specs.declared.error.CheckError.TheVariants.{OutOfMemory};
 ghost use Rattle.check_scopes.specs.Pending.{whole};
 
-use c_tree::Ty;
+use c_syntax::Ty;
 use check_rules::{CheckError, Decl};
 use hard_words::Words;
 use sqlite_items::Items;

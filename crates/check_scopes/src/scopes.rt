@@ -4,7 +4,7 @@ ghost use Rattle.std.specs.Prelude.{◌≡◌, ◌<◌, ◌^◌, reverse, length
 ghost use Rattle.std.specs.Option.{option_copied};
 ghost use Rattle.check_rules.specs.declared.names.Kind.TheVariants.{Function};
 ghost use Rattle.check_rules.specs.Scopes.{in_force, lookup, innermost_known, is_new, opened, closed, enter_block, enter_file, begun, ended, with_body_of};
-ghost use Rattle.c_tree.specs.Meaning.{source_names};
+ghost use Rattle.c_meaning.specs.Meaning.{source_names};
 ghost use Rattle.check_rules.specs.Walk.{is_among, first_walking};
 ghost use Rattle.check_rules.specs.declared.error.CheckError.TheVariants.{OutOfMemory};
 ghost use Rattle.check_scopes.specs.Lookup.{named_in_file, declared};
@@ -12,7 +12,7 @@ ghost use Rattle.check_scopes.specs.Pending.{array_of};
 
 use crate::pending::{Pending, all_completed};
 use crate::scope::Scope;
-use c_tree::Ty;
+use c_syntax::Ty;
 use check_rules::{Binding, CheckError, Decl, Kind, Known};
 use sqlite_items::Items;
 use std::alloc::Global;

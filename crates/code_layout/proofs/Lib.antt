@@ -1,4 +1,2 @@
 pub mod Puts
 pub mod Written
-pub mod Counted
-pub mod Built

@@ -6,17 +6,17 @@ use Rattle.mips_isa.specs.declared.instr.Instr.{Instr}
 use Rattle.mips_isa.specs.declared.instr.Instr.TheVariants.{J, Jal, Jr, Beq, Bne, Lui, Ori}
 use Rattle.mips_isa.specs.Table.{encoding, IsInRange}
 use Rattle.mips_isa.specs.Machine.{is_jump}
-use Rattle.hard_code.specs.declared.code.Fix.{Fix}
-use Rattle.hard_code.specs.declared.code.Fix.TheVariants.{Plain, Block, Function, ReturnHigh, ReturnLow}
-use Rattle.hard_code.specs.declared.code.Item.{Item}
-use Rattle.hard_code.specs.declared.code.HardBlock.{HardBlock}
-use Rattle.hard_code.specs.declared.code.HardProgram.{HardProgram}
-use Rattle.hard_code.specs.declared.code.Mark.{Mark}
-use Rattle.hard_code.specs.declared.code.Signed.{Signed}
-use Rattle.hard_code.specs.Run.{items_of, named}
-use Rattle.hard_code.specs.WellFormed.{NamesThere}
-use Rattle.hard_code.specs.Forms.{Each}
-use Rattle.hard_code.specs.Heads.{head_items, with_heads, headed}
+use Rattle.hard_items.specs.declared.code.Fix.{Fix}
+use Rattle.hard_items.specs.declared.code.Fix.TheVariants.{Plain, Block, Function, ReturnHigh, ReturnLow}
+use Rattle.hard_items.specs.declared.code.Item.{Item}
+use Rattle.hard_items.specs.declared.code.HardBlock.{HardBlock}
+use Rattle.hard_items.specs.declared.code.HardProgram.{HardProgram}
+use Rattle.hard_items.specs.declared.code.Mark.{Mark}
+use Rattle.hard_items.specs.declared.code.Signed.{Signed}
+use Rattle.hard_items.specs.Run.{items_of, named}
+use Rattle.hard_items.specs.WellFormed.{NamesThere}
+use Rattle.hard_items.specs.Forms.{Each}
+use Rattle.hard_items.specs.Heads.{head_items, with_heads, headed}
 use Rattle.layout_law.specs.Layout.{words, address, addresses, Reaches, filled_with, filled, items_words}
 use Rattle.layout_law.specs.Level.{Lines, ItemFits, FieldReaches, AllReach, Layable, Laying}
 use Rattle.code_layout.specs.Starts.{starts_from, BranchReaches, goal_at, GoalThere, put_words, ItemPuts, AllPut}

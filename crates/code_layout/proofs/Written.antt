@@ -5,16 +5,16 @@ use Rattle.std.proofs.lemmas.List.{append-nil, take_all}
 use Rattle.std.proofs.lemmas.Option.{slice_get_read}
 use Rattle.std.specs.Option.{option_copied}
 use denote.Bor.{Bor}
-use Rattle.hard_code.specs.declared.code.Fix.{Fix}
-use Rattle.hard_code.specs.declared.code.Item.{Item}
-use Rattle.hard_code.specs.declared.code.HardBlock.{HardBlock}
-use Rattle.hard_code.specs.declared.code.HardProgram.{HardProgram}
-use Rattle.hard_code.specs.declared.code.Mark.{Mark}
-use Rattle.hard_code.specs.declared.code.Signed.{Signed}
-use Rattle.hard_code.specs.Run.{items_of}
-use Rattle.hard_code.specs.WellFormed.{NamesThere}
-use Rattle.hard_code.specs.Forms.{Each}
-use Rattle.hard_code.specs.Heads.{head_items, with_heads, headed}
+use Rattle.hard_items.specs.declared.code.Fix.{Fix}
+use Rattle.hard_items.specs.declared.code.Item.{Item}
+use Rattle.hard_items.specs.declared.code.HardBlock.{HardBlock}
+use Rattle.hard_items.specs.declared.code.HardProgram.{HardProgram}
+use Rattle.hard_items.specs.declared.code.Mark.{Mark}
+use Rattle.hard_items.specs.declared.code.Signed.{Signed}
+use Rattle.hard_items.specs.Run.{items_of}
+use Rattle.hard_items.specs.WellFormed.{NamesThere}
+use Rattle.hard_items.specs.Forms.{Each}
+use Rattle.hard_items.specs.Heads.{head_items, with_heads, headed}
 use Rattle.layout_law.specs.Layout.{words, address, items_words, blocks_words, text}
 use Rattle.layout_law.specs.Level.{Layable, Laying}
 use Rattle.code_layout.specs.Starts.{starts_from, put_words, AllPut}
@@ -39,11 +39,11 @@ head_named p None = tt
 head_named p (Some m) = (tt, (tt, (tt, (tt, (tt, (tt, (tt, tt)))))))
 
 named_headed : (s : Signed) (f : Fix) → NamesThere s.program f → NamesThere (headed s) f
-named_headed s Rattle.hard_code.specs.declared.code.Fix.TheVariants.Plain h = tt
-named_headed s (Rattle.hard_code.specs.declared.code.Fix.TheVariants.Block t) h = subst (λ (z : ℕ). t < z) (sym (heads_length s.program.blocks s.marks)) h
-named_headed s (Rattle.hard_code.specs.declared.code.Fix.TheVariants.Function f) h = h
-named_headed s Rattle.hard_code.specs.declared.code.Fix.TheVariants.ReturnHigh h = tt
-named_headed s Rattle.hard_code.specs.declared.code.Fix.TheVariants.ReturnLow h = tt
+named_headed s Rattle.hard_items.specs.declared.code.Fix.TheVariants.Plain h = tt
+named_headed s (Rattle.hard_items.specs.declared.code.Fix.TheVariants.Block t) h = subst (λ (z : ℕ). t < z) (sym (heads_length s.program.blocks s.marks)) h
+named_headed s (Rattle.hard_items.specs.declared.code.Fix.TheVariants.Function f) h = h
+named_headed s Rattle.hard_items.specs.declared.code.Fix.TheVariants.ReturnHigh h = tt
+named_headed s Rattle.hard_items.specs.declared.code.Fix.TheVariants.ReturnLow h = tt
 
 each_named : (s : Signed) (xs : List Item) → Each (λ (i : Item). NamesThere s.program i.fix) xs → Each (λ (i : Item). NamesThere (headed s) i.fix) xs
 each_named s [] h = tt
@@ -88,7 +88,7 @@ block_puts s b T E xs l h e g q =
     low x a n c e f h = omega arith
 
 own_items : (s : Signed) (b : ℕ) (k : HardBlock) → slice_get s.program.blocks b ≡ Some k → items_of s.program b ≡ k.items
-own_items s b k e = ap Rattle.hard_code.specs.Run.block_items e
+own_items s b k e = ap Rattle.hard_items.specs.Run.block_items e
 
 -- The items of a block with its head.
 pub marked_items : (s : Signed) (b : ℕ) (m : Mark) (k : HardBlock) → b < length s.program.blocks → slice_get s.marks b ≡ Some m → slice_get s.program.blocks b ≡ Some k → items_of (headed s) b ≡ head_items m ++ k.items

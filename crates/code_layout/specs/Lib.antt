@@ -1,3 +1,1 @@
 pub mod Starts
-pub mod Widen
-pub mod Far

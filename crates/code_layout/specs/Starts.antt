@@ -1,12 +1,12 @@
 -- The addresses of blocks as a list, and the words of items by them. It serves private contracts alone.
 use Rattle.std.specs.Prelude.{◌≡◌, ◌<◌, ℕ, ◌+◌, ◌*◌, ◌%◌, List, [], ◌∷◌, length, slice_index}
 use Rattle.mips_isa.specs.Table.{encoding, IsInRange}
-use Rattle.hard_code.specs.declared.code.Item.{Item}
+use Rattle.hard_items.specs.declared.code.Item.{Item}
 use Rattle.mips_isa.specs.declared.instr.Instr.{Instr}
 use Rattle.mips_isa.specs.declared.instr.Instr.TheVariants.{Beq, Bne}
-use Rattle.hard_code.specs.declared.code.Fix.{Fix}
-use Rattle.hard_code.specs.declared.code.Fix.TheVariants.{Block, Function}
-use Rattle.hard_code.specs.declared.code.HardBlock.{HardBlock}
+use Rattle.hard_items.specs.declared.code.Fix.{Fix}
+use Rattle.hard_items.specs.declared.code.Fix.TheVariants.{Block, Function}
+use Rattle.hard_items.specs.declared.code.HardBlock.{HardBlock}
 use Rattle.layout_law.specs.Layout.{Reaches, filled_with}
 
 -- The address of each block from one on, each with a head of so many words, and last the address behind them.

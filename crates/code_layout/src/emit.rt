@@ -4,7 +4,7 @@ ghost use Rattle.std.specs.Prelude.{◌≡◌, ℕ, ◌+◌, ◌*◌, ◌%◌, �
 ghost use Rattle.code_layout.specs.Starts.{goal_at, GoalThere, put_words, AllPut};
 
 use crate::offsets::fill;
-use hard_code::{Fix, Item};
+use hard_items::{Fix, Item};
 use mips_isa::encode;
 use std::alloc::AllocError;
 

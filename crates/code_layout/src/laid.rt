@@ -1,17 +1,17 @@
 //! A signed program as the words of a text.
 
 ghost use Rattle.std.specs.Prelude.{◌≡◌, ℕ, ◌+◌, ◌*◌, ◌%◌, ◌^◌, ◌<◌, ◌≤◌, ◌++◌, IfOk, OnOk, length};
-ghost use Rattle.hard_code.specs.declared.code.Class.TheVariants as Class;
-ghost use Rattle.hard_code.specs.Streams.{plain};
-ghost use Rattle.hard_code.specs.Heads.{head_items, headed};
-ghost use Rattle.hard_code.specs.Run.{items_of};
+ghost use Rattle.hard_items.specs.declared.code.Class.TheVariants as Class;
+ghost use Rattle.hard_items.specs.Streams.{plain};
+ghost use Rattle.hard_items.specs.Heads.{head_items, headed};
+ghost use Rattle.hard_items.specs.Run.{items_of};
 ghost use Rattle.layout_law.specs.Layout.{address, addresses, text, items_words};
 ghost use Rattle.layout_law.specs.Level.{Laying};
 ghost use Rattle.code_layout.specs.Starts.{starts_from, put_words, AllPut};
 
 use crate::emit::put_items;
 use crate::table::block_starts;
-use hard_code::{Class, Fix, Item, Mark, Signed};
+use hard_items::{Class, Fix, Item, Mark, Signed};
 use hard_words::{OutOfMemory, Words};
 use mips_isa::Instr;
 use std::alloc::{AllocError, Global};

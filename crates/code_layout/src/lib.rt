@@ -1,12 +1,10 @@
-//! The last passes of the back end: the far form of branches, and the words of a signed program.
+//! From a signed program of items to the words of its text, with the starts of its blocks.
 #![tactic(auto)]
 
 mod emit;
-mod far;
-mod goals;
 mod laid;
 mod offsets;
-mod table;
+pub mod table;
 
-pub use far::widen;
+pub use far_branches::widen;
 pub use laid::{Laid, layout};

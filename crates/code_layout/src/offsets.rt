@@ -4,7 +4,7 @@ ghost use Rattle.std.specs.Prelude.{◌≡◌, ℕ, ◌+◌, ◌*◌, ◌%◌, �
 ghost use Rattle.layout_law.specs.Layout.{offset, Reaches, filled_with};
 ghost use Rattle.code_layout.specs.Starts.{BranchReaches};
 
-use hard_code::{Fix, Item};
+use hard_items::{Fix, Item};
 use mips_isa::Instr;
 
 /// The offset of a branch from its delay slot's address to its target.

@@ -4,7 +4,7 @@ ghost use Rattle.std.specs.Prelude.{◌≡◌, ℕ, ◌+◌, ◌*◌, ◌^◌, �
 ghost use Rattle.layout_law.specs.Layout.{words};
 ghost use Rattle.code_layout.specs.Starts.{starts_from};
 
-use hard_code::HardBlock;
+use hard_items::HardBlock;
 use hard_words::OutOfMemory;
 use std::alloc::Global;
 

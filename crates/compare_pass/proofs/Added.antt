@@ -3,14 +3,14 @@ use Rattle.std.proofs.Common.{◌≡◌, ◌≢◌, ◌≤◌, ◌<◌, ℕ, zer
 use Rattle.std.specs.Prelude.{◌⊎◌, ◌==◌, ◌&&◌, ◌||◌, IsTrue, Contains, if◌then◌else◌}
 use Rattle.std.proofs.lemmas.List.Elements.{Contains-append_left, Contains-append_right, Contains-push, Contains-append_cases}
 use Rattle.mips_isa.specs.declared.instr.Instr.TheVariants as mips
-use Rattle.hard_code.specs.declared.code.Class.{Class}
-use Rattle.hard_code.specs.declared.code.Class.TheVariants as class
-use Rattle.hard_code.specs.declared.code.Item.{Item}
-use Rattle.hard_code.specs.Streams.{is_master, is_stream, shadow_of, nop, plain}
-use Rattle.hard_code.specs.Forms.{Form, Alone, Product, Store, Test, Output, Takes, Idle, Close, Jump, Branch, Call, Return, Exit, form_items, close_items, block_of, Each, FormFits, CloseFits, Formed, check, check_if, is_value}
-use Rattle.hard_code.specs.Rules.{use_checks}
-use Rattle.hard_code.specs.Counts.{is_of_check}
-use Rattle.block_laws.specs.Keeping.{IsAdded}
+use Rattle.hard_items.specs.declared.code.Class.{Class}
+use Rattle.hard_items.specs.declared.code.Class.TheVariants as class
+use Rattle.hard_items.specs.declared.code.Item.{Item}
+use Rattle.hard_items.specs.Streams.{is_master, is_stream, shadow_of, nop, plain}
+use Rattle.hard_items.specs.Forms.{Form, Alone, Product, Store, Test, Output, Takes, Idle, Close, Jump, Branch, Call, Return, Exit, form_items, close_items, block_of, Each, FormFits, CloseFits, Formed, check, check_if, is_value}
+use Rattle.hard_items.specs.Rules.{use_checks}
+use Rattle.hard_items.specs.Counts.{is_of_check}
+use Rattle.hard_items.specs.Keeping.{IsAdded}
 use Rattle.compare_pass.specs.Guarding.{guarded, acting, number_items, checks, with_checks, acts, is_number}
 
 no_true : true ≡ false → ⊥

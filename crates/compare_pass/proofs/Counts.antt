@@ -5,18 +5,19 @@ use Rattle.std.proofs.lemmas.List.Sums.{sum_by-cons, sum_by-append}
 use Rattle.mips_isa.specs.declared.instr.Instr.{Instr}
 use Rattle.mips_isa.specs.declared.instr.Instr.TheVariants.{Beq, Break, Ori, Sll}
 use Rattle.mips_isa.specs.Machine.{is_jump}
-use Rattle.hard_code.specs.declared.code.Class.TheVariants as class
-use Rattle.hard_code.specs.declared.code.Item.{Item}
-use Rattle.hard_code.specs.declared.code.HardBlock.{HardBlock}
-use Rattle.hard_code.specs.declared.code.HardProgram.{HardProgram}
-use Rattle.hard_code.specs.Streams.{nop, plain}
-use Rattle.hard_code.specs.Run.{items_of, block_items}
-use Rattle.hard_code.specs.Forms.{check}
-use Rattle.hard_code.specs.Rules.{use_checks}
-use Rattle.hard_code.specs.Counts.{free_nops, free_nops_behind, is_nop, is_branch, branches, nops_for, is_of_check, checks_wanted, checks_there, block_room, is_reload}
-use Rattle.hard_code.specs.Streams.{is_stream}
+use Rattle.hard_items.specs.declared.code.Class.TheVariants as class
+use Rattle.hard_items.specs.declared.code.Item.{Item}
+use Rattle.hard_items.specs.declared.code.HardBlock.{HardBlock}
+use Rattle.hard_items.specs.declared.code.HardProgram.{HardProgram}
+use Rattle.hard_items.specs.Streams.{nop, plain}
+use Rattle.hard_items.specs.Run.{items_of, block_items}
+use Rattle.hard_items.specs.Forms.{check}
+use Rattle.hard_items.specs.Rules.{use_checks}
+use Rattle.mips_text.specs.Loads.{is_reload}
+use Rattle.hard_items.specs.Counts.{free_nops, free_nops_behind, is_nop, is_branch, branches, nops_for, is_of_check, checks_wanted, checks_there, block_room}
+use Rattle.hard_items.specs.Streams.{is_stream}
 use Rattle.compare_pass.specs.Guarding.{guarded, acting, number_items, checks, with_checks, acts, is_number}
-use Rattle.block_laws.specs.Counted.{of_streams}
+use Rattle.hard_items.specs.Counted.{of_streams}
 use Rattle.compare_pass.specs.Law.{SameCounts}
 use Rattle.compare_pass.proofs.Keeps.{IsGuarded}
 

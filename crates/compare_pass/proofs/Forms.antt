@@ -5,15 +5,15 @@ use Rattle.mips_isa.specs.declared.instr.Instr.{Instr}
 use Rattle.mips_isa.specs.declared.instr.Instr.TheVariants as mips
 use Rattle.mips_isa.specs.Machine.{is_product}
 use Rattle.mips_isa.specs.Locality.{is_data, is_move}
-use Rattle.hard_code.specs.declared.code.Class.{Class}
-use Rattle.hard_code.specs.declared.code.Class.TheVariants as class
-use Rattle.hard_code.specs.declared.code.Item.{Item}
-use Rattle.hard_code.specs.declared.code.HardProgram.{HardProgram}
-use Rattle.hard_code.specs.Streams.{is_master, shadow_of, is_stream, nop, plain}
-use Rattle.hard_code.specs.Run.{Data, Way, Onward, Over, To, way_of, held}
-use Rattle.hard_code.specs.Forms.{Form, Alone, Product, Store, Test, Output, Takes, Idle, Close, Jump, Branch, Call, Return, Exit, form_items, close_items, block_of, Each, FormFits, CloseFits, HasChecks, CloseHasChecks, Formed, check, check_if, is_value}
-use Rattle.hard_code.specs.Rules.{Checked}
-use Rattle.hard_code.specs.Counts.{is_of_check}
+use Rattle.hard_items.specs.declared.code.Class.{Class}
+use Rattle.hard_items.specs.declared.code.Class.TheVariants as class
+use Rattle.hard_items.specs.declared.code.Item.{Item}
+use Rattle.hard_items.specs.declared.code.HardProgram.{HardProgram}
+use Rattle.hard_items.specs.Streams.{is_master, shadow_of, is_stream, nop, plain}
+use Rattle.hard_items.specs.Run.{Data, Way, Onward, Over, To, way_of, held}
+use Rattle.hard_items.specs.Forms.{Form, Alone, Product, Store, Test, Output, Takes, Idle, Close, Jump, Branch, Call, Return, Exit, form_items, close_items, block_of, Each, FormFits, CloseFits, HasChecks, CloseHasChecks, Formed, check, check_if, is_value}
+use Rattle.hard_items.specs.Rules.{Checked}
+use Rattle.hard_items.specs.Counts.{is_of_check}
 use Rattle.compare_pass.specs.Guarding.{acting, checks, with_checks, acts}
 use Rattle.compare_pass.proofs.Keeps.{FitsWay, SlotsFit, Unchecked}
 

@@ -3,12 +3,12 @@ use Rattle.std.proofs.Common.{◌≡◌, ◌≢◌, ◌<◌, ℕ, ◌+◌, ◌%�
 use Rattle.std.specs.Prelude.{IsTrue}
 use Rattle.mips_isa.specs.declared.instr.Instr.{Instr}
 use Rattle.mips_isa.specs.declared.instr.Instr.TheVariants as mips
-use Rattle.hard_code.specs.declared.code.Class.TheVariants as class
-use Rattle.hard_code.specs.declared.code.Fix.{Fix}
-use Rattle.hard_code.specs.declared.code.Fix.TheVariants.{Plain, Block, Function, ReturnHigh, ReturnLow}
-use Rattle.hard_code.specs.declared.code.Item.{Item}
-use Rattle.hard_code.specs.Streams.{shadow_of, nop, plain}
-use Rattle.hard_code.specs.Forms.{Form, Alone, Product, Store, Test, Output, Takes, Idle, Close, Jump, Branch, Call, Return, Exit, form_items, close_items, block_of, Each, FormFits, CloseFits, Formed, check, check_if, is_value, HalvesAt, HalvesPair}
+use Rattle.hard_items.specs.declared.code.Class.TheVariants as class
+use Rattle.hard_items.specs.declared.code.Fix.{Fix}
+use Rattle.hard_items.specs.declared.code.Fix.TheVariants.{Plain, Block, Function, ReturnHigh, ReturnLow}
+use Rattle.hard_items.specs.declared.code.Item.{Item}
+use Rattle.hard_items.specs.Streams.{shadow_of, nop, plain}
+use Rattle.hard_items.specs.Forms.{Form, Alone, Product, Store, Test, Output, Takes, Idle, Close, Jump, Branch, Call, Return, Exit, form_items, close_items, block_of, Each, FormFits, CloseFits, Formed, check, check_if, is_value, HalvesAt, HalvesPair}
 use Rattle.compare_pass.specs.Guarding.{with_checks}
 use Rattle.compare_pass.proofs.Forms.{with_checked, close_with_checks, guarded_block}
 
@@ -82,13 +82,13 @@ close_halves (Branch c r true to) o h x =
     set_check r (shadow_of r) going_on o (λ e. absurd (closed_no o y.0 e)) (λ e. absurd (closed_no o y.0 e)) y
   where
     going_on : List Item
-    going_on = Rattle.hard_code.specs.Forms.going (mips.Bne r 0 0) (Block to) ∷ plain nop class.Act ∷ []
+    going_on = Rattle.hard_items.specs.Forms.going (mips.Bne r 0 0) (Block to) ∷ plain nop class.Act ∷ []
 close_halves (Branch c r false to) o h x =
     let y : HalvesPair going_on o = strip c r going_on o x in
     set_check r (shadow_of r) going_on o (λ e. absurd (closed_no o y.0 e)) (λ e. absurd (closed_no o y.0 e)) y
   where
     going_on : List Item
-    going_on = Rattle.hard_code.specs.Forms.going (mips.Beq r 0 0) (Block to) ∷ plain nop class.Act ∷ []
+    going_on = Rattle.hard_items.specs.Forms.going (mips.Beq r 0 0) (Block to) ∷ plain nop class.Act ∷ []
 close_halves (Call f) o h x = x
 close_halves (Return c) o h x =
     let y : HalvesPair leaving o = strip c 31 leaving o x in

@@ -1,9 +1,9 @@
 -- Setting the checks keeps the run, and carries over what is true of each state.
 use Rattle.std.proofs.Common.{◌≡◌, ◌≢◌, ◌≤◌, ◌<◌, ℕ, zero, suc, ◌+◌, ◌-◌, arith, ap, refl, sym, ◌∙◌, subst, List, [], ◌∷◌, ◌++◌, append_assoc, append-nil, length, Bool, true, false, cond, not, inl, inr, le_refl, flat_map}
 use Rattle.std.specs.Prelude.{Option, Some, None, ◌==◌, ◌&&◌, slice_index}
-use Rattle.hard_words.specs.Observed.{SameObserved}
-use Rattle.hard_words.specs.Stepping.{Stands, Stage, Always, Follows, Leads, Beside, on, over, go, put}
-use Rattle.hard_words.proofs.Following.{follows, leads_on}
+use Rattle.hard_runs.specs.Observed.{SameObserved}
+use Rattle.hard_runs.specs.Stepping.{Stands, Stage, Always, Follows, Leads, Beside, on, over, go, put}
+use Rattle.hard_runs.proofs.Following.{follows, leads_on}
 use Rattle.mips_isa.specs.declared.instr.Instr.{Instr}
 use Rattle.mips_isa.specs.declared.instr.Instr.TheVariants.{J, Jal, Ori, Beq, Break}
 use Rattle.mips_isa.specs.declared.instr.Act.{Act}
@@ -12,18 +12,18 @@ use Rattle.mips_isa.specs.declared.instr.End.{End}
 use Rattle.mips_isa.specs.declared.instr.End.TheVariants.{Exception}
 use Rattle.mips_isa.specs.Machine as machine
 use Rattle.mips_isa.specs.Machine.{is_jump}
-use Rattle.hard_code.specs.declared.code.Class.{Class}
-use Rattle.hard_code.specs.declared.code.Class.TheVariants as class
-use Rattle.hard_code.specs.declared.code.Fix.{Fix}
-use Rattle.hard_code.specs.declared.code.Fix.TheVariants.{Plain, Block, Function, ReturnHigh, ReturnLow}
-use Rattle.hard_code.specs.declared.code.Item.{Item}
-use Rattle.hard_code.specs.declared.code.HardProgram.{HardProgram}
-use Rattle.hard_code.specs.Streams.{nop, plain}
-use Rattle.hard_code.specs.Run.{Data, Spot, Way, Onward, Over, To, items, before, at_block, items_of, item_act, machine_of, way_of, held, named, branch_way, arrived, data_after, backs_after, marked_reg, marked, settled, first_spot, item_run, step_from, tail, numbered}
-use Rattle.hard_code.specs.Rules.{Lawful, LawfulAt, LawfulNext, AgreesAt, AgreesNext, Returns, checks_of, use_checks, SameIn}
-use Rattle.hard_code.specs.Ways.{MayFollow}
-use Rattle.hard_code.specs.Forms.{Each, check}
-use Rattle.hard_code.specs.Counts.{is_of_check}
+use Rattle.hard_items.specs.declared.code.Class.{Class}
+use Rattle.hard_items.specs.declared.code.Class.TheVariants as class
+use Rattle.hard_items.specs.declared.code.Fix.{Fix}
+use Rattle.hard_items.specs.declared.code.Fix.TheVariants.{Plain, Block, Function, ReturnHigh, ReturnLow}
+use Rattle.hard_items.specs.declared.code.Item.{Item}
+use Rattle.hard_items.specs.declared.code.HardProgram.{HardProgram}
+use Rattle.hard_items.specs.Streams.{nop, plain}
+use Rattle.hard_items.specs.Run.{Data, Spot, Way, Onward, Over, To, items, before, at_block, items_of, item_act, machine_of, way_of, held, named, branch_way, arrived, data_after, backs_after, marked_reg, marked, settled, first_spot, item_run, step_from, tail, numbered}
+use Rattle.hard_items.specs.Rules.{Lawful, LawfulAt, LawfulNext, AgreesAt, AgreesNext, Returns, checks_of, use_checks, SameIn}
+use Rattle.hard_items.specs.Ways.{MayFollow}
+use Rattle.hard_items.specs.Forms.{Each, check}
+use Rattle.hard_items.specs.Counts.{is_of_check}
 use Rattle.compare_pass.specs.Guarding.{guarded, acting, number_items, checks, with_checks, is_number, acts}
 
 abbrev pub Good : HardProgram → Spot → Type 0
@@ -86,7 +86,7 @@ zero_by f x b h = elim (x == 0) as (λ z. (x == 0) ≡ z → (cond z f (marked f
 
 -- $0 never holds a return number
 zero_kept : (i : Item) (a : Act) (d : Data) → d.backs 0 ≡ false → backs_after i a d 0 ≡ false
-zero_kept i (Write r v) d h = zero_by d.backs r (Rattle.hard_code.specs.Run.makes_number i) h
+zero_kept i (Write r v) d h = zero_by d.backs r (Rattle.hard_items.specs.Run.makes_number i) h
 zero_kept i (Move r v) d h = zero_by d.backs r false h
 zero_kept i (Both x y) d h = h
 zero_kept i (Load r a) d h = zero_by d.backs r (d.stored (machine.place a)) h
@@ -121,7 +121,7 @@ compares q b x y i j more d s =
     let c : Item = plain (Beq x y 2) class.Check in
     let act : item_act b c d ≡ Pass = branch_passes b (held d x == held d y) (machine.branch_target (machine_of d) 2) in
     let step : (items q).step (spot b (c ∷ i ∷ j ∷ more) Onward d) ≡ (spot b (i ∷ j ∷ more) Over d, None) =
-    ap (λ (a : Act). Rattle.hard_code.specs.Run.do_item q (spot b (c ∷ i ∷ j ∷ more) Onward d) c (i ∷ j ∷ more) a) act ∙
+    ap (λ (a : Act). Rattle.hard_items.specs.Run.do_item q (spot b (c ∷ i ∷ j ∷ more) Onward d) c (i ∷ j ∷ more) a) act ∙
     ap (λ (z : Bool). let o : Spot × Option ℕ = (spot b (i ∷ j ∷ more) (cond z Over Onward) d, None) in o) (same_is (held d x) (held d y) s.0) in (
       record {
         open_ = refl;
@@ -321,7 +321,7 @@ one_stage p q s h l al i more e law same =
     let k : Ready p q b al.checked i more h.way d = ready p q s b al.checked i more h.way d (subst (λ (x : List Item). FitsWay h.way al.checked x) e al.fits) (subst (λ (x : List Item). SlotsFit p x) e al.slots) al.zero_ same in
     let last : Spot = spot b (i ∷ k.rest) k.way d in
     let start : spot b (guarded al.checked i ++ beyond i more) h.way d ≡ l = ap (λ (x : List Item). spot b (with_checks al.checked x) h.way d) (sym e) ∙ sym al.is in
-    let high : (items p).step h ≡ settled p h i more a res res.0.end = ap (λ (x : Option End). step_from p h x) al.going ∙ ap (λ (x : List Item). Rattle.hard_code.specs.Run.step_rest p h x) e in
+    let high : (items p).step h ≡ settled p h i more a res res.0.end = ap (λ (x : Option End). step_from p h x) al.going ∙ ap (λ (x : List Item). Rattle.hard_items.specs.Run.step_rest p h x) e in
     let d' : Data = data_after i a d res.0 in
     let z' : d'.backs 0 ≡ false = zero_kept i a d al.zero_ in
     let own : way_of q i d i.instr ≡ way_of p i d i.instr = way_same p q i d i.instr s.guarded_is.entries in
@@ -345,13 +345,13 @@ at_first : (p q : HardProgram) (s : Shaped p q) (input : List ℕ) → Aligned p
 at_first p q s input = record {
   going = refl;
   checked = false;
-  is = ap (λ (x : List Item). spot 0 x Onward (Rattle.hard_code.specs.Run.first_data q input)) (s.guarded_is.blocks 0) ∙ ap (λ (x : Data). spot 0 (with_checks false (items_of p 0)) Onward x) same_data;
+  is = ap (λ (x : List Item). spot 0 x Onward (Rattle.hard_items.specs.Run.first_data q input)) (s.guarded_is.blocks 0) ∙ ap (λ (x : Data). spot 0 (with_checks false (items_of p 0)) Onward x) same_data;
   fits = tt;
   slots = s.slots 0;
   zero_ = refl;
 }
   where
-    same_data : Rattle.hard_code.specs.Run.first_data q input ≡ Rattle.hard_code.specs.Run.first_data p input
+    same_data : Rattle.hard_items.specs.Run.first_data q input ≡ Rattle.hard_items.specs.Run.first_data p input
     same_data = ap (λ (x : List ℕ). let d : Data = record { regs = Rattle.std.proofs.Common.replicate 32 0; hi = 0; lo = 0; memory = x ++ Rattle.std.proofs.Common.replicate (q.memory_words - length x) 0; feed = input; fed = 0; backs = λ r. false; stored = λ r. false } in d) s.guarded_is.initial ∙
         ap (λ (n : ℕ). let d : Data = record { regs = Rattle.std.proofs.Common.replicate 32 0; hi = 0; lo = 0; memory = p.initial ++ Rattle.std.proofs.Common.replicate (n - length p.initial) 0; feed = input; fed = 0; backs = λ r. false; stored = λ r. false } in d) s.guarded_is.memory
 

@@ -1,20 +1,20 @@
 -- What setting the checks keeps, from the run that is kept and the forms.
 use Rattle.std.proofs.Common.{◌≡◌, ◌≢◌, ◌≤◌, ◌<◌, ℕ, zero, suc, ◌+◌, arith, ap, refl, sym, ◌∙◌, subst, List, [], ◌∷◌, ◌++◌, length, map, Bool, true, false, inl, inr, ⊎_elim}
 use Rattle.std.specs.Prelude.{Option, Some, None, ◌⊎◌, slice_get, Contains}
-use Rattle.hard_words.specs.Observed.{SameObserved}
+use Rattle.hard_runs.specs.Observed.{SameObserved}
 use Rattle.hard_words.specs.Words.{AreWords}
-use Rattle.hard_words.specs.Stepping.{Always}
+use Rattle.hard_runs.specs.Stepping.{Always}
 use Rattle.mips_isa.specs.declared.instr.End.TheVariants.{Reported}
-use Rattle.hard_code.specs.declared.code.Item.{Item}
-use Rattle.hard_code.specs.declared.code.HardBlock.{HardBlock}
-use Rattle.hard_code.specs.declared.code.HardProgram.{HardProgram}
-use Rattle.hard_code.specs.Run.{items, items_of, first_spot, item_run, block_items}
-use Rattle.hard_code.specs.Forms.{Formed, HalvesPair, Each}
-use Rattle.hard_code.specs.Rules.{Guarded, Checked, Twin}
-use Rattle.block_laws.specs.Keeping.{OnlyAdds}
-use Rattle.block_laws.proofs.Keeping.{well_formed_stays, halves_call}
+use Rattle.hard_items.specs.declared.code.Item.{Item}
+use Rattle.hard_items.specs.declared.code.HardBlock.{HardBlock}
+use Rattle.hard_items.specs.declared.code.HardProgram.{HardProgram}
+use Rattle.hard_items.specs.Run.{items, items_of, first_spot, item_run, block_items}
+use Rattle.hard_items.specs.Forms.{Formed, HalvesPair, Each}
+use Rattle.hard_items.specs.Rules.{Guarded, Checked, Twin}
+use Rattle.hard_items.specs.Keeping.{OnlyAdds}
+use Rattle.hard_laws.proofs.Keeping.{well_formed_stays, halves_call}
 use Rattle.compare_pass.specs.Guarding.{with_checks, checked_block, checked_program}
-use Rattle.block_laws.specs.Runs.{SameRuns}
+use Rattle.hard_items.specs.Runs.{SameRuns}
 use Rattle.compare_pass.specs.Law.{SameCounts}
 use Rattle.compare_pass.proofs.Keeps.{IsGuarded, Shaped, SlotsFit, Good, guard_keeps}
 use Rattle.compare_pass.proofs.Counts.{same_counts}

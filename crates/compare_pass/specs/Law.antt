@@ -1,9 +1,9 @@
 -- What setting the checks keeps.
 use Rattle.std.specs.Prelude.{◌≡◌, ℕ, length, sum_by}
-use Rattle.hard_code.specs.declared.code.HardProgram.{HardProgram}
-use Rattle.hard_code.specs.Run.{items_of}
-use Rattle.hard_code.specs.Counts.{room, reloads, branches, free_nops}
-use Rattle.block_laws.specs.Counted.{of_streams}
+use Rattle.hard_items.specs.declared.code.HardProgram.{HardProgram}
+use Rattle.hard_items.specs.Run.{items_of}
+use Rattle.hard_items.specs.Counts.{room, reloads, branches, free_nops}
+use Rattle.hard_items.specs.Counted.{of_streams}
 
 -- What is counted stays, and so do the items of the streams.
 pub record SameCounts (p q : HardProgram) : Type 0 where

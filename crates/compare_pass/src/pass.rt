@@ -2,15 +2,15 @@
 
 ghost use Rattle.std.specs.Prelude.{◌≡◌, false, IfOk, All, map};
 ghost use Rattle.mips_isa.specs.Table.{IsInRange};
-ghost use Rattle.hard_code.specs.Counts as counts;
-ghost use Rattle.hard_code.specs.Rules.{Twin, Guarded};
+ghost use Rattle.hard_items.specs.Counts as counts;
+ghost use Rattle.hard_items.specs.Rules.{Twin, Guarded};
 ghost use Rattle.compare_pass.specs.Guarding.{with_checks, checked_block, checked_program};
 ghost use Rattle.compare_pass.specs.Law.{SameCounts};
-ghost use Rattle.block_laws.specs.Runs.{SameRuns};
+ghost use Rattle.hard_items.specs.Runs.{SameRuns};
 
 use crate::uses::put_guarded;
-use hard_code::{Class, HardBlock, HardProgram, Item, Sequence};
-use hard_words::OutOfMemory;
+use hard_items::{Class, HardBlock, HardProgram, Item};
+use hard_words::{OutOfMemory, Sequence};
 use std::alloc::Global;
 
 /// Whether a class is that of a check.

@@ -2,12 +2,12 @@
 
 ghost use Rattle.std.specs.Prelude.{◌≡◌, ◌<◌, ◌++◌, ◌∷◌, [], false, OnOk};
 ghost use Rattle.mips_isa.specs.Table.{IsInRange};
-ghost use Rattle.hard_code.specs.Forms.{check};
-ghost use Rattle.hard_code.specs.Rules.{use_checks};
-ghost use Rattle.hard_code.specs.Streams as streams;
+ghost use Rattle.hard_items.specs.Forms.{check};
+ghost use Rattle.hard_items.specs.Rules.{use_checks};
+ghost use Rattle.hard_items.specs.Streams as streams;
 ghost use Rattle.compare_pass.specs.Guarding as guarding;
 
-use hard_code::{Class, Fix, Item};
+use hard_items::{Class, Fix, Item};
 use hard_words::OutOfMemory;
 use mips_isa::Instr;
 

@@ -4,20 +4,20 @@ use Rattle.std.proofs.lemmas.Bool.{cases_lt}
 use Rattle.c_lexer.specs.declared.error.LexError.{LexError}
 use Rattle.c_lexer.specs.declared.token.Token.{Token}
 use Rattle.c_lexer.specs.Tokens.{Tokens, HasSomeResult}
-use Rattle.c_tree.specs.declared.tree.Program.{Program}
-use Rattle.c_tree.specs.Meaning.{source_names}
-use Rattle.c_tree.specs.Sizes.{program_depth}
+use Rattle.c_syntax.specs.declared.tree.Program.{Program}
+use Rattle.c_meaning.specs.Meaning.{source_names}
+use Rattle.c_syntax.specs.Sizes.{program_depth}
 use Rattle.c_parser.specs.declared.program.ParseError.TheVariants.{NoProgram}
-use Rattle.c_parser.specs.Items.{Tree}
-use Rattle.c_parser.specs.Order.{end_of}
-use Rattle.c_parser.specs.Decided.{TreeOrNone}
+use Rattle.c_grammar.specs.Items.{Tree}
+use Rattle.c_lexer.specs.Order.{end_of}
+use Rattle.c_grammar.specs.Decided.{TreeOrNone}
 use Rattle.check_rules.specs.declared.error.CheckError.TheVariants as checker
 use Rattle.check_rules.specs.Fault.{Fault}
 use Rattle.check_rules.specs.Limits.{first_fault}
-use Rattle.compile_chain.specs.declared.refusal.Refusal.{Refusal}
-use Rattle.compile_chain.specs.declared.refusal.Refusal.TheVariants.{TooLong, Lex, Parse, Check}
-use Rattle.compile_chain.specs.Compiled.{longest_source, IsSource, IsAccepted, IsRefused, AcceptedOrRefused, NeverBoth}
-use Rattle.compile_chain.proofs.Sources.{not_both}
+use Rattle.compile_rules.specs.declared.refusal.Refusal.{Refusal}
+use Rattle.compile_rules.specs.declared.refusal.Refusal.TheVariants.{TooLong, Lex, Parse, Check}
+use Rattle.compile_rules.specs.Compiled.{longest_source, IsSource, IsAccepted, IsRefused, AcceptedOrRefused, NeverBoth}
+use Rattle.compile_rules.proofs.Exclusive.{not_both}
 
 abbrev Answered : List ℕ → Type 0
 Answered source = IsAccepted source ⊎ ((refusal : Refusal) × IsRefused source refusal)

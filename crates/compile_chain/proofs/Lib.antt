@@ -1,4 +1,6 @@
+pub mod Compiled
+pub mod Joined
 pub mod Sources
-mod Results
-mod Starts
-mod Decided
+pub mod Results
+pub mod Starts
+pub mod Decided

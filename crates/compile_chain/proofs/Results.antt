@@ -2,8 +2,8 @@
 use Rattle.std.proofs.Common.{◌≡◌, ◌∙◌}
 use Rattle.std.specs.Prelude.{Result, Ok, Err, IfOk, IfErr, IsOkUnless}
 use Rattle.std.specs.Result.{IsErrAnd}
-use Rattle.compile_chain.specs.declared.refusal.Refusal.{Refusal}
-use Rattle.compile_chain.specs.declared.refusal.Refusal.TheVariants.{OutOfMemory}
+use Rattle.compile_rules.specs.declared.refusal.Refusal.{Refusal}
+use Rattle.compile_rules.specs.declared.refusal.Refusal.TheVariants.{OutOfMemory}
 
 pub if_ok : {A B : Type 0} (r : Result A B) (P Q : A → Type 0) → ((a : A) → P a → Q a) → IfOk r P → IfOk r Q
 if_ok (Ok a) P Q f h = f a h

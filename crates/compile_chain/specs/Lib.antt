@@ -1,2 +1,3 @@
-pub mod Compiled
+pub mod Laws
+pub mod Law
 pub mod Parts

@@ -5,35 +5,23 @@ use Rattle.c_lexer.specs.declared.error.LexError.TheVariants as lexer
 use Rattle.c_lexer.specs.declared.token.Token.{Token}
 use Rattle.c_parser.specs.declared.program.ParseError.{ParseError}
 use Rattle.c_parser.specs.declared.program.ParseError.TheVariants as parser
-use Rattle.c_parser.specs.Items.{Tree}
-use Rattle.c_tree.specs.declared.tree.Program.{Program}
-use Rattle.c_tree.specs.Meaning.{source_names}
-use Rattle.c_tree.specs.Shaped.{Shaped}
-use Rattle.c_tree.specs.Sizes.{program_depth, program_nodes}
+use Rattle.c_grammar.specs.Items.{Tree}
+use Rattle.c_syntax.specs.declared.tree.Program.{Program}
+use Rattle.c_meaning.specs.Meaning.{source_names}
+use Rattle.c_syntax.specs.Shaped.{Shaped}
+use Rattle.c_syntax.specs.Sizes.{program_depth, program_nodes}
 use Rattle.check_rules.specs.declared.error.CheckError.{CheckError}
 use Rattle.check_rules.specs.declared.error.CheckError.TheVariants as checker
 use Rattle.check_rules.specs.Limits.{Resolved, checked, resolved_names}
-use Rattle.check_again.specs.Leaf.{IsLightLeaf}
-use Rattle.mid_code.specs.declared.code.Mid.{Mid}
-use Rattle.small_leaf.specs.Leaf.{IsOneLeaf}
+use Rattle.check_rules.specs.Leaf.{IsLightLeaf}
+use Rattle.mid_blocks.specs.declared.code.Mid.{Mid}
+use Rattle.mid_blocks.specs.Leaf.{IsOneLeaf}
 use Rattle.mips_isa.specs.Image.{ImageFields}
-use Rattle.compile_law.specs.Lowered.{IsLowered}
-use Rattle.compile_blocks.specs.Blocks.{IsImageOfBlocks, IsSplitImageOfBlocks}
-use Rattle.compile_chain.specs.declared.refusal.Refusal.{Refusal}
-use Rattle.compile_chain.specs.declared.refusal.Refusal.TheVariants.{TooLong, Lex, Parse, Check, OutOfMemory}
-use Rattle.compile_chain.specs.Compiled.{HasNoTree, IsFirstFault}
-
-abbrev pub lexer_refusal : LexError → Refusal
-lexer_refusal lexer.OutOfMemory = OutOfMemory
-lexer_refusal e = Lex e
-
-abbrev pub parser_refusal : ParseError → Refusal
-parser_refusal parser.OutOfMemory = OutOfMemory
-parser_refusal e = Parse e
-
-abbrev pub checker_refusal : CheckError → Refusal
-checker_refusal checker.OutOfMemory = OutOfMemory
-checker_refusal e = Check e
+use Rattle.lower_rules.specs.Lowered.{IsLowered}
+use Rattle.harden.specs.Blocks.{IsImageOfBlocks, IsSplitImageOfBlocks}
+use Rattle.compile_rules.specs.declared.refusal.Refusal.{Refusal}
+use Rattle.compile_rules.specs.declared.refusal.Refusal.TheVariants.{TooLong, Lex, Parse, Check, OutOfMemory}
+use Rattle.compile_rules.specs.Compiled.{HasNoTree, IsFirstFault}
 
 -- the image of what a checked program is lowered to
 pub record IsImageOfChecked (c : Resolved) (fields : ImageFields) : Type 0 where

@@ -2,31 +2,29 @@
 
 ghost use Rattle.std.specs.Prelude.{◌≡◌, ◌<◌, ◌≤◌, IfOk, IfErr, Ok, Err, IsOkUnless, length, map, sum};
 ghost use Rattle.elf_image.specs.Layout.{fields_of};
-ghost use Rattle.c_parser.specs.Order.{InOrder};
-ghost use Rattle.c_tree.specs.Meaning.{source_names};
-ghost use Rattle.c_tree.specs.Shaped.{Shaped};
-ghost use Rattle.c_tree.specs.Sizes.{program_nodes};
+ghost use Rattle.c_lexer.specs.Order.{InOrder};
+ghost use Rattle.c_meaning.specs.Meaning.{source_names};
+ghost use Rattle.c_syntax.specs.Shaped.{Shaped};
+ghost use Rattle.c_syntax.specs.Sizes.{program_nodes};
 ghost use Rattle.check_rules.specs.Limits.{checked};
 ghost use Rattle.check_rules.specs.Resolution.{most_nodes, IsChecked};
-ghost use Rattle.lowering_law.specs.Labels.{bare_clauses};
-ghost use Rattle.lowering_law.specs.Programs.{with_bodies};
-ghost use Rattle.compile_chain.specs.Compiled.{IsAccepted, IsCheckedSource, IsNotCompiled, Compiles, longest_source};
+ghost use Rattle.c_syntax.specs.Labels.{bare_clauses};
+ghost use Rattle.c_syntax.specs.Graph.{with_bodies};
+ghost use Rattle.compile_rules.specs.Compiled.{IsAccepted, IsCheckedSource, IsNotCompiled, Compiles, longest_source};
 ghost use Rattle.compile_chain.specs.Parts.{IsCheckedTokens, IsImageOfChecked, RefusesProgram, RefusesTokens};
 
-use crate::refusal::Refusal;
+use crate::lowered_image::{lowered_is_hardened, lowered_is_small};
 use c_check::check;
 use c_lexer::{Token, tokens};
-use c_parser::parse;
-use c_tree::Program;
-use check_again::{nodes_stay, stays_light};
+use c_parser::{parse, parsed_is_labelled};
+use c_syntax::Program;
+use check_law::{nodes_stay, stays_labelled, stays_light};
 use check_rules::Checked;
-use checked_labels::stays_labelled;
-use compile_blocks::compile_blocks;
+use compile_rules::Refusal;
 use elf_image::Image;
 use hard_words::OutOfMemory;
-use lowered_image::{lowered_is_hardened, lowered_is_small};
+use harden::compile_blocks;
 use mid_lower::lower;
-use parsed_labels::parsed_is_labelled;
 use std::alloc::Global;
 
 /// The greatest number of bytes of a source.

@@ -1,9 +1,9 @@
 //! Laws of the definitions.
 
-ghost use Rattle.compile_chain.specs.Compiled.{AcceptedOrRefused, NamesAgree, NeverBoth};
+ghost use Rattle.compile_rules.specs.Compiled.{AcceptedOrRefused, NamesAgree, NeverBoth};
 
+use c_grammar::tree_or_none;
 use c_lexer::each_text_has_a_result;
-use c_parser::tree_or_none;
 
 /// The numbers that the meaning of C takes for the names `main`, `in_word` and `out_word` are those of the lexer. The call does nothing;
 /// its contract is the law.

@@ -3,22 +3,21 @@
 ghost use Rattle.std.specs.Prelude.{◌≡◌, ◌<◌, IfOk, IfErr, Err, IsOkUnless, length, map, sum};
 ghost use Rattle.elf_image.specs.Layout.{fields_of};
 ghost use Rattle.check_rules.specs.Resolution.{IsChecked};
-ghost use Rattle.lowering_law.specs.Labels.{bare_clauses};
-ghost use Rattle.lowering_law.specs.Programs.{with_bodies};
-ghost use Rattle.compile_chain.specs.Compiled.{IsAccepted, IsNotCompiled, CompilesSplit, longest_source};
+ghost use Rattle.c_syntax.specs.Labels.{bare_clauses};
+ghost use Rattle.c_syntax.specs.Graph.{with_bodies};
+ghost use Rattle.compile_rules.specs.Compiled.{IsAccepted, IsNotCompiled, CompilesSplit, longest_source};
 ghost use Rattle.compile_chain.specs.Parts.{IsSplitImageOfChecked};
 
 use crate::compiler::checked_source;
-use crate::refusal::Refusal;
-use check_again::{nodes_stay, stays_light};
+use crate::lowered_image::{lowered_is_hardened, lowered_is_small};
+use c_parser::parsed_is_labelled;
+use check_law::{nodes_stay, stays_labelled, stays_light};
 use check_rules::Checked;
-use checked_labels::stays_labelled;
-use compile_blocks::compile_blocks_split;
+use compile_rules::Refusal;
 use elf_image::Image;
 use hard_words::OutOfMemory;
-use lowered_image::{lowered_is_hardened, lowered_is_small};
+use harden::compile_blocks_split;
 use mid_lower::lower;
-use parsed_labels::parsed_is_labelled;
 use std::alloc::Global;
 
 /// The image of a source of at most 1,048,576 bytes without critical edges: as that of [`compile`](crate::compile), but each edge from a

@@ -2,27 +2,28 @@
 use Rattle.std.proofs.Common.{false, ◌≡◌, ◌≢◌, ◌≤◌, ◌<◌, ℕ, zero, suc, ◌+◌, ◌-◌, ◌/◌, ◌%◌, ◌^◌, arith, ap, refl, sym, ◌∙◌, subst, List, [], ◌∷◌, ◌++◌, length, map, take, sum, inl, inr, flat_map, ⊎_elim}
 use Rattle.std.specs.Prelude.{Option, Some, None, ◌⊎◌, slice_get, Contains}
 use Rattle.mips_isa.specs.declared.instr.Instr.TheVariants as mips
-use Rattle.mid_code.specs.declared.code.MidStep.{MidStep}
-use Rattle.mid_code.specs.declared.code.MidEnd.{MidEnd}
-use Rattle.mid_code.specs.declared.code.MidEnd.TheVariants as line
-use Rattle.mid_code.specs.declared.code.MidBlock.{MidBlock}
-use Rattle.mid_code.specs.declared.code.MidFunction.{MidFunction}
-use Rattle.mid_code.specs.declared.code.Mid.{Mid}
-use Rattle.mid_code.specs.declared.places.Places.{Places}
-use Rattle.mid_code.specs.Lines.{Line, Step, End, one_or_none}
-use Rattle.mid_code.specs.Liveness.{PlacesFit}
-use Rattle.mid_code.specs.Valid.{Valid, ValidFunction, line_variables}
-use Rattle.hard_code.specs.declared.code.Item.{Item}
-use Rattle.hard_code.specs.declared.code.HardProgram.{HardProgram}
-use Rattle.hard_code.specs.Forms.{AreBare, Close, Call, Exit}
-use Rattle.hard_code.specs.Run.{items_of}
+use Rattle.mid_blocks.specs.declared.code.MidStep.{MidStep}
+use Rattle.mid_blocks.specs.declared.code.MidEnd.{MidEnd}
+use Rattle.mid_blocks.specs.declared.code.MidEnd.TheVariants as line
+use Rattle.mid_blocks.specs.declared.code.MidBlock.{MidBlock}
+use Rattle.mid_blocks.specs.declared.code.MidFunction.{MidFunction}
+use Rattle.mid_blocks.specs.declared.code.Mid.{Mid}
+use Rattle.mid_blocks.specs.declared.places.Places.{Places}
+use Rattle.mid_blocks.specs.Lines.{Line, Step, End, one_or_none}
+use Rattle.mid_blocks.specs.Liveness.{PlacesFit}
+use Rattle.mid_blocks.specs.Valid.{Valid, ValidFunction, line_variables}
+use Rattle.hard_items.specs.declared.code.Item.{Item}
+use Rattle.hard_items.specs.declared.code.HardProgram.{HardProgram}
+use Rattle.hard_items.specs.Forms.{AreBare, Close, Call, Exit}
+use Rattle.hard_items.specs.Run.{items_of}
 use Rattle.double_law.specs.declared.roles.Role.TheVariants.{Stack}
 use Rattle.double_law.specs.Roles.{reg_in, both}
 use Rattle.double_law.specs.Emitted.{place_of, step_items, end_items, call_items}
 use Rattle.frame_plan.specs.Frames.{cell_address, global_cell, global_length, cells}
 use Rattle.double_law.specs.Program.{first_block, start_items, body_items, behind_block, behind_end, first_items, IsDoubled}
 use Rattle.double_law.proofs.Places.{PlaceFits}
-use Rattle.double_law.proofs.Relation.{StepAt, EndAt, sum_cons}
+use Rattle.hard_words.proofs.Sums.{sum_cons}
+use Rattle.double_law.proofs.Relation.{StepAt, EndAt}
 use Rattle.double_law.proofs.Flows.{step_line, end_line, in_front, at_end, named_below, fits_below, param_below}
 use Rattle.double_law.specs.Law.{AllFit}
 use Rattle.double_law.proofs.Wiring.{all_at}
@@ -78,12 +79,12 @@ module _ (f : MidFunction) (at : Places) (vf : ValidFunction f) (pf : PlacesFit 
   step_made : (address size : ℕ → ℕ) (b k : ℕ) (block : MidBlock) (s : MidStep) → slice_get f.blocks b ≡ Some block → slice_get block.steps k ≡ Some s → Made (step_items address size at s)
   step_made address size b k block s e g =
       let there : StepAt f b k s = record { block = block; is_block = e; is_step = g } in
-      made_step address size f.pairs at s vf.pairs_fit (step_fits f.pairs at s (λ v c. fits_below f at vf pf v (named_below f at vf pf (Rattle.mid_code.specs.Lines.first_of f b + k) (Step s) v (step_line f b k s there) c)))
+      made_step address size f.pairs at s vf.pairs_fit (step_fits f.pairs at s (λ v c. fits_below f at vf pf v (named_below f at vf pf (Rattle.mid_blocks.specs.Lines.first_of f b + k) (Step s) v (step_line f b k s there) c)))
 
   pub end_variables : (b : ℕ) (block : MidBlock) → slice_get f.blocks b ≡ Some block → Fitting f.pairs at (line_variables (End block.end))
   end_variables b block e v c =
       let there : EndAt f b (length block.steps) block.end = record { block = block; is_block = e; is_last = refl; is_end = refl } in
-      fits_below f at vf pf v (named_below f at vf pf (Rattle.mid_code.specs.Lines.first_of f b + length block.steps) (End block.end) v (end_line f b (length block.steps) block.end there) c)
+      fits_below f at vf pf v (named_below f at vf pf (Rattle.mid_blocks.specs.Lines.first_of f b + length block.steps) (End block.end) v (end_line f b (length block.steps) block.end there) c)
 
   result_made : (e : MidEnd) → Fitting f.pairs at (line_variables (End e)) → Made (behind_end at e)
   result_made (line.Jump to) h = made_nothing

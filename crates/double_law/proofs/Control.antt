@@ -1,24 +1,24 @@
 -- Trap tests, services, jumps, branches, calls and returns.
 use Rattle.std.proofs.Common.{◌≡◌, ◌≢◌, ◌≤◌, ◌<◌, ℕ, zero, suc, ◌+◌, ◌-◌, ◌*◌, ◌/◌, ◌%◌, ◌^◌, arith, ap, refl, sym, ◌∙◌, subst, List, [], ◌∷◌, ◌++◌, append_assoc, length, get_or, Bool, true, false, cond, not, inl, inr, le_refl}
 use Rattle.std.specs.Prelude.{Option, Some, None, ◌==◌, nat_lt, slice_index, if◌then◌else◌, bit_or}
-use Rattle.hard_words.specs.Stepping.{Leads}
-use Rattle.hard_words.proofs.Following.{leads_on}
+use Rattle.hard_runs.specs.Stepping.{Leads}
+use Rattle.hard_runs.proofs.Following.{leads_on}
 use Rattle.mips_isa.specs.declared.instr.Instr.TheVariants as mips
 use Rattle.mips_isa.specs.declared.instr.Act.{Act}
 use Rattle.mips_isa.specs.declared.instr.Act.TheVariants.{Go, Pass, Service}
 use Rattle.mips_isa.specs.declared.instr.End.{End}
 use Rattle.mips_isa.specs.declared.instr.End.TheVariants.{Exception, Trapped, Exited, Starved}
 use Rattle.mips_isa.specs.Machine as machine
-use Rattle.hard_code.specs.declared.code.Class.{Class}
-use Rattle.hard_code.specs.declared.code.Class.TheVariants as class
-use Rattle.hard_code.specs.declared.code.Fix.TheVariants as fix
-use Rattle.hard_code.specs.declared.code.Item.{Item}
-use Rattle.hard_code.specs.declared.code.HardProgram.{HardProgram}
-use Rattle.hard_code.specs.Streams.{nop, plain}
-use Rattle.hard_code.specs.Forms.{Each, going}
-use Rattle.hard_code.specs.Run.{Data, Spot, Way, Onward, Over, To, items, before, at_block, item_act, machine_of, way_of, held, do_item, settled, marked_reg, numbered}
-use Rattle.hard_code.specs.Rules.{Lawful, NoException}
-use Rattle.hard_code.specs.Ways.{MayFollow}
+use Rattle.hard_items.specs.declared.code.Class.{Class}
+use Rattle.hard_items.specs.declared.code.Class.TheVariants as class
+use Rattle.hard_items.specs.declared.code.Fix.TheVariants as fix
+use Rattle.hard_items.specs.declared.code.Item.{Item}
+use Rattle.hard_items.specs.declared.code.HardProgram.{HardProgram}
+use Rattle.hard_items.specs.Streams.{nop, plain}
+use Rattle.hard_items.specs.Forms.{Each, going}
+use Rattle.hard_items.specs.Run.{Data, Spot, Way, Onward, Over, To, items, before, at_block, item_act, machine_of, way_of, held, do_item, settled, marked_reg, numbered}
+use Rattle.hard_items.specs.Rules.{Lawful, NoException}
+use Rattle.hard_items.specs.Ways.{MayFollow}
 use Rattle.double_law.specs.declared.roles.Stream.{Stream}
 use Rattle.double_law.specs.declared.roles.Stream.TheVariants.{First, Second}
 use Rattle.double_law.specs.declared.roles.Role.{Role}

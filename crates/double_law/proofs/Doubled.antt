@@ -2,7 +2,7 @@
 use Rattle.std.proofs.Common.{◌≡◌, ◌≢◌, ◌≤◌, ◌<◌, ℕ, zero, suc, ◌+◌, ◌-◌, ◌*◌, ◌/◌, ◌%◌, ◌^◌, arith, ap, refl, sym, ◌∙◌, subst, List, [], ◌∷◌, ◌++◌, length, get_or, Bool, true, false, cond, inl, inr, get_or-set_other, get_or-set_same, length-set}
 use Rattle.std.specs.Prelude.{◌==◌, slice_index, slice_set, if◌then◌else◌}
 use Rattle.mips_isa.specs.Machine.{written}
-use Rattle.hard_code.specs.Run.{Data, held, marked, marked_reg}
+use Rattle.hard_items.specs.Run.{Data, held, marked, marked_reg}
 use Rattle.double_law.specs.declared.roles.Stream.{Stream}
 use Rattle.double_law.specs.declared.roles.Stream.TheVariants.{First, Second}
 use Rattle.double_law.specs.declared.roles.Role.{Role}

@@ -3,32 +3,32 @@ use Rattle.std.proofs.Common.{◌≡◌, ◌≢◌, ◌≤◌, ◌<◌, ℕ, zer
 use Rattle.std.specs.Prelude.{Option, Some, None, ◌⊎◌, slice_get, slice_index, slice_index_or, IsSome}
 use Rattle.std.proofs.lemmas.Option.{slice_get_within}
 use Rattle.std.proofs.lemmas.List.{drop_all}
-use Rattle.hard_words.specs.Stepping.{Leads}
-use Rattle.hard_words.proofs.Following.{leads_on}
+use Rattle.hard_runs.specs.Stepping.{Leads}
+use Rattle.hard_runs.proofs.Following.{leads_on}
 use Rattle.mips_isa.specs.declared.instr.Instr.TheVariants as mips
 use Rattle.mips_isa.specs.declared.instr.End.TheVariants as machine
-use Rattle.mid_code.specs.declared.code.MidEnd.{MidEnd}
-use Rattle.mid_code.specs.declared.code.MidEnd.TheVariants.{Jump, Branch, Call, Return}
-use Rattle.mid_code.specs.declared.code.MidBlock.{MidBlock}
-use Rattle.mid_code.specs.declared.code.MidFunction.{MidFunction}
-use Rattle.mid_code.specs.declared.code.MidStep.{MidStep}
-use Rattle.mid_code.specs.declared.code.Mid.{Mid}
-use Rattle.mid_code.specs.declared.code.RunEnd.TheVariants as ended
-use Rattle.mid_code.specs.declared.places.Place.{Place}
-use Rattle.mid_code.specs.declared.places.Place.TheVariants.{Pair, Slot}
-use Rattle.mid_code.specs.declared.places.Places.{Places}
-use Rattle.mid_code.specs.Lines.{End as EndLine, line_of}
-use Rattle.mid_code.specs.Run.{Active, BlockState, Variables, word_in, index_in, goes_to, is_taken, do_line, do_end, with_word, with_result, entry, returns, ends}
-use Rattle.mid_code.specs.Run as run
-use Rattle.mid_code.specs.Bounds.{ProperLine}
-use Rattle.hard_code.specs.declared.code.Class.TheVariants as class
-use Rattle.hard_code.specs.declared.code.Fix.TheVariants as fix
-use Rattle.hard_code.specs.declared.code.Item.{Item}
-use Rattle.hard_code.specs.declared.code.HardProgram.{HardProgram}
-use Rattle.hard_code.specs.Forms.{going}
-use Rattle.hard_code.specs.Streams.{nop, plain}
-use Rattle.hard_code.specs.Run.{Data, Spot, items, before, at_block, items_of, Onward}
-use Rattle.hard_code.specs.Ways.{MayFollow}
+use Rattle.mid_blocks.specs.declared.code.MidEnd.{MidEnd}
+use Rattle.mid_blocks.specs.declared.code.MidEnd.TheVariants.{Jump, Branch, Call, Return}
+use Rattle.mid_blocks.specs.declared.code.MidBlock.{MidBlock}
+use Rattle.mid_blocks.specs.declared.code.MidFunction.{MidFunction}
+use Rattle.mid_blocks.specs.declared.code.MidStep.{MidStep}
+use Rattle.mid_blocks.specs.declared.code.Mid.{Mid}
+use Rattle.mid_blocks.specs.declared.code.RunEnd.TheVariants as ended
+use Rattle.mid_blocks.specs.declared.places.Place.{Place}
+use Rattle.mid_blocks.specs.declared.places.Place.TheVariants.{Pair, Slot}
+use Rattle.mid_blocks.specs.declared.places.Places.{Places}
+use Rattle.mid_blocks.specs.Lines.{End as EndLine, line_of}
+use Rattle.mid_blocks.specs.Run.{Active, BlockState, Variables, word_in, index_in, goes_to, is_taken, do_line, do_end, with_word, with_result, entry, returns, ends}
+use Rattle.mid_blocks.specs.Run as run
+use Rattle.mid_blocks.specs.Bounds.{ProperLine}
+use Rattle.hard_items.specs.declared.code.Class.TheVariants as class
+use Rattle.hard_items.specs.declared.code.Fix.TheVariants as fix
+use Rattle.hard_items.specs.declared.code.Item.{Item}
+use Rattle.hard_items.specs.declared.code.HardProgram.{HardProgram}
+use Rattle.hard_items.specs.Forms.{going}
+use Rattle.hard_items.specs.Streams.{nop, plain}
+use Rattle.hard_items.specs.Run.{Data, Spot, items, before, at_block, items_of, Onward}
+use Rattle.hard_items.specs.Ways.{MayFollow}
 use Rattle.double_law.specs.declared.roles.Stream.TheVariants.{First}
 use Rattle.double_law.specs.declared.roles.Role.TheVariants.{Value, Stack, Link}
 use Rattle.double_law.specs.Roles.{reg_in, both, load}

@@ -1,11 +1,11 @@
 -- A valid program has few blocks, since each ends by a line.
 use Rattle.std.proofs.Common.{◌≡◌, ◌≤◌, ◌<◌, ℕ, zero, suc, ◌+◌, ◌^◌, arith, ap, refl, sym, ◌∙◌, subst, List, [], ◌∷◌, ◌++◌, length, map, flat_map, sum, length-append}
-use Rattle.mid_code.specs.declared.code.MidFunction.{MidFunction}
-use Rattle.mid_code.specs.declared.code.MidBlock.{MidBlock}
-use Rattle.mid_code.specs.declared.code.Mid.{Mid}
-use Rattle.mid_code.specs.Lines.{End, Step, block_lines, lines}
-use Rattle.mid_code.specs.Valid.{Valid}
-use Rattle.double_law.proofs.Relation.{sum_cons}
+use Rattle.mid_blocks.specs.declared.code.MidFunction.{MidFunction}
+use Rattle.mid_blocks.specs.declared.code.MidBlock.{MidBlock}
+use Rattle.mid_blocks.specs.declared.code.Mid.{Mid}
+use Rattle.mid_blocks.specs.Lines.{End, Step, block_lines, lines}
+use Rattle.mid_blocks.specs.Valid.{Valid}
+use Rattle.hard_words.proofs.Sums.{sum_cons}
 
 blocks_end : (bs : List MidBlock) → length bs ≤ length (flat_map block_lines bs)
 blocks_end [] = Rattle.std.proofs.Common.zero-le

@@ -3,16 +3,16 @@ use Rattle.std.proofs.Common.{◌≡◌, ◌≢◌, ◌≤◌, ◌<◌, ℕ, zer
 use Rattle.std.specs.Prelude.{Option, Some, None, ◌⊎◌, nat_lt, slice_get, slice_index_or, Contains, All, if◌then◌else◌}
 use Rattle.std.proofs.lemmas.Option.{slice_get_within, get_or_from_slice_get, slice_get-get_or}
 use Rattle.std.proofs.lemmas.List.{get_or_append_left, get_or_default}
-use Rattle.mid_code.specs.declared.code.MidStep.{MidStep}
-use Rattle.mid_code.specs.declared.code.MidEnd.{MidEnd}
-use Rattle.mid_code.specs.declared.code.MidEnd.TheVariants as line
-use Rattle.mid_code.specs.declared.code.MidFunction.{MidFunction}
-use Rattle.mid_code.specs.declared.places.Place.{Place}
-use Rattle.mid_code.specs.declared.places.Place.TheVariants.{Pair, Slot}
-use Rattle.mid_code.specs.declared.places.Places.{Places}
-use Rattle.mid_code.specs.Lines.{Line, Step, End, step_writes, end_writes, line_reads, line_writes, one_or_none, block_lines, lines, first_of, leads_to}
-use Rattle.mid_code.specs.Liveness.{LineAt, IsWanted, here, later, IsLive, written, wanted, parameter, own_slot, PlaceOf, PlacesFit}
-use Rattle.mid_code.specs.Valid.{ValidFunction, line_variables}
+use Rattle.mid_blocks.specs.declared.code.MidStep.{MidStep}
+use Rattle.mid_blocks.specs.declared.code.MidEnd.{MidEnd}
+use Rattle.mid_blocks.specs.declared.code.MidEnd.TheVariants as line
+use Rattle.mid_blocks.specs.declared.code.MidFunction.{MidFunction}
+use Rattle.mid_blocks.specs.declared.places.Place.{Place}
+use Rattle.mid_blocks.specs.declared.places.Place.TheVariants.{Pair, Slot}
+use Rattle.mid_blocks.specs.declared.places.Places.{Places}
+use Rattle.mid_blocks.specs.Lines.{Line, Step, End, step_writes, end_writes, line_reads, line_writes, one_or_none, block_lines, lines, first_of, leads_to}
+use Rattle.mid_blocks.specs.Liveness.{LineAt, IsWanted, here, later, IsLive, written, wanted, parameter, own_slot, PlaceOf, PlacesFit}
+use Rattle.mid_blocks.specs.Valid.{ValidFunction, line_variables}
 use Rattle.double_law.specs.Emitted.{place_of}
 use Rattle.double_law.proofs.Places.{PlaceFits}
 use Rattle.double_law.proofs.Relation.{Wanted, StepAt, EndAt, Flow}

@@ -3,19 +3,19 @@ use Rattle.std.proofs.Common.{◌≡◌, ◌≢◌, ◌≤◌, ◌<◌, ℕ, zer
 use Rattle.std.specs.Prelude.{Option, Some, None, ◌⊎◌, ◌==◌, ◌&&◌, ◌||◌, nat_le, if◌then◌else◌, IsTrue}
 use Rattle.mips_isa.specs.declared.instr.Instr.{Instr}
 use Rattle.mips_isa.specs.declared.instr.Instr.TheVariants as mips
-use Rattle.hard_code.specs.declared.code.Class.TheVariants as class
-use Rattle.hard_code.specs.declared.code.Fix.TheVariants as fix
-use Rattle.hard_code.specs.declared.code.Item.{Item}
-use Rattle.hard_code.specs.Streams.{is_master, is_shadow, shadow_of, nop, plain}
-use Rattle.hard_code.specs.Forms.{Form, Alone, Product, Store, Test, Output, Takes, Idle, Close, Jump, Branch, Call, Return, Exit, form_items, close_items, block_of, Each, FormFits, CloseFits, StandsAlone, IsProduct, MayTouch, Bare, BareClose, is_value, going}
-use Rattle.mid_code.specs.declared.code.MidStep.{MidStep}
-use Rattle.mid_code.specs.declared.code.MidEnd.{MidEnd}
-use Rattle.mid_code.specs.declared.code.MidEnd.TheVariants as line
-use Rattle.mid_code.specs.declared.code.MidOp.{MidOp}
-use Rattle.mid_code.specs.declared.code.MidOp.TheVariants as op
-use Rattle.mid_code.specs.declared.places.Place.{Place}
-use Rattle.mid_code.specs.declared.places.Place.TheVariants.{Pair, Slot}
-use Rattle.mid_code.specs.declared.places.Places.{Places}
+use Rattle.hard_items.specs.declared.code.Class.TheVariants as class
+use Rattle.hard_items.specs.declared.code.Fix.TheVariants as fix
+use Rattle.hard_items.specs.declared.code.Item.{Item}
+use Rattle.hard_items.specs.Streams.{is_master, is_shadow, shadow_of, nop, plain}
+use Rattle.hard_items.specs.Forms.{Form, Alone, Product, Store, Test, Output, Takes, Idle, Close, Jump, Branch, Call, Return, Exit, form_items, close_items, block_of, Each, FormFits, CloseFits, StandsAlone, IsProduct, MayTouch, Bare, BareClose, is_value, going}
+use Rattle.mid_blocks.specs.declared.code.MidStep.{MidStep}
+use Rattle.mid_blocks.specs.declared.code.MidEnd.{MidEnd}
+use Rattle.mid_blocks.specs.declared.code.MidEnd.TheVariants as line
+use Rattle.mid_blocks.specs.declared.code.MidOp.{MidOp}
+use Rattle.mid_blocks.specs.declared.code.MidOp.TheVariants as op
+use Rattle.mid_blocks.specs.declared.places.Place.{Place}
+use Rattle.mid_blocks.specs.declared.places.Place.TheVariants.{Pair, Slot}
+use Rattle.mid_blocks.specs.declared.places.Places.{Places}
 use Rattle.double_law.specs.declared.roles.Stream.{Stream}
 use Rattle.double_law.specs.declared.roles.Stream.TheVariants.{First, Second}
 use Rattle.double_law.specs.declared.roles.Role.{Role}
@@ -74,7 +74,7 @@ may_zero t = inl refl
 pub made_both : (f : Stream → Instr) → ((t : Stream) → StandsAlone (plain (f t) (class_in t))) → Made (both f)
 made_both f h = record { forms = Alone (plain (f First) class.Master) ∷ Alone (plain (f Second) class.Shadow) ∷ []; is = refl; fit = (h First, (h Second, tt)); bare = (tt, (tt, tt)) }
 
-stream_of : (t : Stream) → Rattle.hard_code.specs.Streams.is_stream (class_in t) ≡ true
+stream_of : (t : Stream) → Rattle.hard_items.specs.Streams.is_stream (class_in t) ≡ true
 stream_of First = refl
 stream_of Second = refl
 
@@ -156,16 +156,16 @@ IsCarried (Value k) = k ≤ 9
 IsCarried Stack = ⊥
 IsCarried Link = Unit {0}
 
-carried : (t : Stream) (r : Role) → IsCarried r → Rattle.hard_code.specs.Forms.is_carried (reg_in t r) ≡ true
+carried : (t : Stream) (r : Role) → IsCarried r → Rattle.hard_items.specs.Forms.is_carried (reg_in t r) ≡ true
 carried First (Value k) h = by_four k h
   where
-    by_four : (k : ℕ) → k ≤ 9 → Rattle.hard_code.specs.Forms.is_carried (4 + k) ≡ true
+    by_four : (k : ℕ) → k ≤ 9 → Rattle.hard_items.specs.Forms.is_carried (4 + k) ≡ true
     by_four k h = grind arith
 carried First Stack h = absurd h
 carried First Link h = refl
 carried Second (Value k) h = by_fourteen k h
   where
-    by_fourteen : (k : ℕ) → k ≤ 9 → Rattle.hard_code.specs.Forms.is_carried (14 + k) ≡ true
+    by_fourteen : (k : ℕ) → k ≤ 9 → Rattle.hard_items.specs.Forms.is_carried (14 + k) ≡ true
     by_fourteen k h = grind arith
 carried Second Stack h = absurd h
 carried Second Link h = refl

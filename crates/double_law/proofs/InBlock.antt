@@ -3,22 +3,22 @@ use Rattle.std.proofs.Common.{◌≡◌, ◌≢◌, ◌≤◌, ◌<◌, ℕ, zer
 use Rattle.std.specs.Prelude.{Option, Some, None, Result, Ok, Err, ◌⊎◌, ◌==◌, ◌&&◌, nat_lt, nat_le, slice_get, slice_index, slice_index_or, Contains, IsSome}
 use Rattle.mips_isa.specs.declared.instr.Instr.TheVariants as mips
 use Rattle.mips_isa.specs.declared.instr.End.TheVariants as machine
-use Rattle.mid_code.specs.declared.code.MidOp.{MidOp}
-use Rattle.mid_code.specs.declared.code.MidOp.TheVariants as op
-use Rattle.mid_code.specs.declared.code.MidStep.{MidStep}
-use Rattle.mid_code.specs.declared.code.MidStep.TheVariants.{Constant, Copy, Operate, Guard, Load, Store, Input, Output, Deep}
-use Rattle.mid_code.specs.declared.code.MidFunction.{MidFunction}
-use Rattle.mid_code.specs.declared.code.Mid.{Mid}
-use Rattle.mid_code.specs.declared.code.RunEnd.TheVariants as ended
-use Rattle.mid_code.specs.declared.places.Place.{Place}
-use Rattle.mid_code.specs.declared.places.Place.TheVariants.{Pair, Slot}
-use Rattle.mid_code.specs.declared.places.Places.{Places}
-use Rattle.mid_code.specs.Lines.{Step, step_reads, step_writes, line_of}
-use Rattle.mid_code.specs.Run.{BlockState, Variables, word_in, index_in, global_in, load_from, do_line, operate, sets_or_traps, with_word, passes, ends, sets, takes_in}
-use Rattle.mid_code.specs.Bounds.{ProperLine}
-use Rattle.hard_code.specs.declared.code.Item.{Item}
-use Rattle.hard_code.specs.declared.code.HardProgram.{HardProgram}
-use Rattle.hard_code.specs.Run.{Spot, items, before, Onward}
+use Rattle.mid_blocks.specs.declared.code.MidOp.{MidOp}
+use Rattle.mid_blocks.specs.declared.code.MidOp.TheVariants as op
+use Rattle.mid_blocks.specs.declared.code.MidStep.{MidStep}
+use Rattle.mid_blocks.specs.declared.code.MidStep.TheVariants.{Constant, Copy, Operate, Guard, Load, Store, Input, Output, Deep}
+use Rattle.mid_blocks.specs.declared.code.MidFunction.{MidFunction}
+use Rattle.mid_blocks.specs.declared.code.Mid.{Mid}
+use Rattle.mid_blocks.specs.declared.code.RunEnd.TheVariants as ended
+use Rattle.mid_blocks.specs.declared.places.Place.{Place}
+use Rattle.mid_blocks.specs.declared.places.Place.TheVariants.{Pair, Slot}
+use Rattle.mid_blocks.specs.declared.places.Places.{Places}
+use Rattle.mid_blocks.specs.Lines.{Step, step_reads, step_writes, line_of}
+use Rattle.mid_blocks.specs.Run.{BlockState, Variables, word_in, index_in, global_in, load_from, do_line, operate, sets_or_traps, with_word, passes, ends, sets, takes_in}
+use Rattle.mid_blocks.specs.Bounds.{ProperLine}
+use Rattle.hard_items.specs.declared.code.Item.{Item}
+use Rattle.hard_items.specs.declared.code.HardProgram.{HardProgram}
+use Rattle.hard_items.specs.Run.{Spot, items, before, Onward}
 use Rattle.double_law.specs.declared.roles.Role.{Role}
 use Rattle.double_law.specs.declared.roles.Role.TheVariants.{Value, Stack}
 use Rattle.double_law.specs.Roles.{reg_in, both, store, test}
@@ -42,7 +42,7 @@ cons_nil x xs e = cc
 
 constant_some : (r : Role) (w : ℕ) → constant r w ≡ [] → ⊥
 constant_some r w = elim (w / 2 ^ 16 == 0) as (λ z. cond z one (cond (w % 2 ^ 16 == 0) two (cond (w / 2 ^ 16 == 2 ^ 16 - 1 && nat_le (2 ^ 15) (w % 2 ^ 16)) three four)) ≡ [] → ⊥) [
-  | true ↦ λ e. cons_nil (Rattle.hard_code.specs.Streams.plain (mips.Ori (reg_in Rattle.double_law.specs.declared.roles.Stream.Stream.First r) 0 w) Rattle.hard_code.specs.declared.code.Class.Class.Master) (Rattle.hard_code.specs.Streams.plain (mips.Ori (reg_in Rattle.double_law.specs.declared.roles.Stream.Stream.Second r) 0 w) Rattle.hard_code.specs.declared.code.Class.Class.Shadow ∷ []) e
+  | true ↦ λ e. cons_nil (Rattle.hard_items.specs.Streams.plain (mips.Ori (reg_in Rattle.double_law.specs.declared.roles.Stream.Stream.First r) 0 w) Rattle.hard_items.specs.declared.code.Class.Class.Master) (Rattle.hard_items.specs.Streams.plain (mips.Ori (reg_in Rattle.double_law.specs.declared.roles.Stream.Stream.Second r) 0 w) Rattle.hard_items.specs.declared.code.Class.Class.Shadow ∷ []) e
   | false ↦ elim (w % 2 ^ 16 == 0) as (λ z. cond z two (cond (w / 2 ^ 16 == 2 ^ 16 - 1 && nat_le (2 ^ 15) (w % 2 ^ 16)) three four) ≡ [] → ⊥) [
     | true ↦ λ e. both_some (λ t. mips.Lui (reg_in t r) (w / 2 ^ 16)) e
     | false ↦ elim (w / 2 ^ 16 == 2 ^ 16 - 1 && nat_le (2 ^ 15) (w % 2 ^ 16)) as (λ z. cond z three four ≡ [] → ⊥) [
@@ -139,7 +139,7 @@ reads_word mid places p input h l r v flow wanted some =
       is = w.1;
       stands = record { fits = flow.wanted_fits h.current.block h.current.step v wanted; word = s; unnumbered = r.holds.unnumbered v w.0 wanted w.1 };
       small = subst (λ (n : ℕ). n < 2 ^ 32) s (place_word (cells mid) r.top r.a (place_of r.at v) r.doubled.words);
-      value = ap (λ (o : Option ℕ). Rattle.mid_code.specs.Run.word_or_zero o) w.1;
+      value = ap (λ (o : Option ℕ). Rattle.mid_blocks.specs.Run.word_or_zero o) w.1;
     }
 
 pub first_of_list : (x : ℕ) (xs : List ℕ) → Contains (x ∷ xs) x
@@ -331,12 +331,12 @@ module _ (mid : Mid) (places : List Places) (p : HardProgram) (input : List ℕ)
   storing : (s : MidStep) (g i w : ℕ) → slice_get r.block.steps h.current.step ≡ Some s → step_writes s ≡ None → g < length mid.globals → i < global_length mid g →
       (step_items (λ g. cell_address (global_cell mid g)) (global_length mid) r.at s ≡ [] → ⊥) →
       DoesSetCell p (cells mid) (first_block mid h.current.function + h.current.block) (step_items (λ g. cell_address (global_cell mid g)) (global_length mid) r.at s) r.a (global_cell mid g + i) w →
-      (blocks mid).step h ≡ (stepped h h.current.variables (Rattle.mid_code.specs.Run.store_to h.globals g i w) h.feed h.output, None) → StageOf mid places p input h l
+      (blocks mid).step h ≡ (stepped h h.current.variables (Rattle.mid_blocks.specs.Run.store_to h.globals g i w) h.feed h.output, None) → StageOf mid places p input h l
   storing s g i w e writes there within ne does step =
       let c : ℕ = global_cell mid g + i in
       let below : c < global_cells mid = global_below mid g i within in
-      silent mid places p input h (stepped h h.current.variables (Rattle.mid_code.specs.Run.store_to h.globals g i w) h.feed h.output) l r s does.now e ne does.does step
-      (λ d doubled. advance mid places p input h l r s h.current.variables (Rattle.mid_code.specs.Run.store_to h.globals g i w) h.feed h.output does.now d e doubled
+      silent mid places p input h (stepped h h.current.variables (Rattle.mid_blocks.specs.Run.store_to h.globals g i w) h.feed h.output) l r s does.now e ne does.does step
+      (λ d doubled. advance mid places p input h l r s h.current.variables (Rattle.mid_blocks.specs.Run.store_to h.globals g i w) h.feed h.output does.now d e doubled
       (record { stack = does.sets.file Stack tt ∙ r.frame.stack; room = r.frame.room; small = r.frame.small; pairs_fit = r.frame.pairs_fit })
       (record {
         word = λ v x n z. kept_place (place_of r.at v) below does.sets ∙ r.holds.word v x (flow.step_on h.current.block h.current.step v s (here s e) (λ y. none_some v (sym writes ∙ y)) n) z;
@@ -379,7 +379,7 @@ module _ (mid : Mid) (places : List Places) (p : HardProgram) (input : List ℕ)
       (λ z. store_some (source pl 0) (Value 1) (Rattle.double_law.specs.Emitted.lower (cell_address c)) (back_nil (fetched pl 0) (store (source pl 0) (Value 1) (Rattle.double_law.specs.Emitted.lower (cell_address c))) (back_nil (both (λ t. mips.Lui (reg_in t (Value 1)) (Rattle.double_law.specs.Emitted.upper (cell_address c)))) (fetched pl 0 ++ store (source pl 0) (Value 1) (Rattle.double_law.specs.Emitted.lower (cell_address c))) z)))
       (subst (λ (x : ℕ). DoesSetCell p (cells mid) b (step_items (λ g. cell_address (global_cell mid g)) (global_length mid) r.at s) r.a x q.word) (sym zero_more)
       (Steps.store_step p (cells mid) b r.f.pairs r.top c q.word pl r.a r.frame q.stands below))
-      (steps_to s e ∙ ap (λ (x : ℕ). let z : BlockState × Option ℕ = (stepped h h.current.variables (Rattle.mid_code.specs.Run.store_to h.globals g 0 x) h.feed h.output, None) in z) q.value)
+      (steps_to s e ∙ ap (λ (x : ℕ). let z : BlockState × Option ℕ = (stepped h h.current.variables (Rattle.mid_blocks.specs.Run.store_to h.globals g 0 x) h.feed h.output, None) in z) q.value)
     where
       globals_below : (mid : Mid) → {c : ℕ} → c < global_cells mid → c < cells mid
       globals_below mid {c} h = omega arith
@@ -400,8 +400,8 @@ module _ (mid : Mid) (places : List Places) (p : HardProgram) (input : List ℕ)
       storing s g i q.word e refl there within
       (λ z. store_some (source pl 0) (Value 1) (Rattle.double_law.specs.Emitted.lower (cell_address c)) (back_nil (fetched pl 0) (store (source pl 0) (Value 1) (Rattle.double_law.specs.Emitted.lower (cell_address c))) (back_nil el (fetched pl 0 ++ store (source pl 0) (Value 1) (Rattle.double_law.specs.Emitted.lower (cell_address c))) z)))
       (Steps.store_indexed p (cells mid) b r.f.pairs r.top c i q.word (place_of r.at v) pl r.a r.frame qi.stands q.stands below)
-      (steps_to s e ∙ (ap (λ (x : ℕ). let z : BlockState × Option ℕ = (stepped h h.current.variables (Rattle.mid_code.specs.Run.store_to h.globals g x (word_in h.current.variables from)) h.feed h.output, None) in z) qi.value ∙
-      ap (λ (x : ℕ). let z : BlockState × Option ℕ = (stepped h h.current.variables (Rattle.mid_code.specs.Run.store_to h.globals g i x) h.feed h.output, None) in z) q.value))
+      (steps_to s e ∙ (ap (λ (x : ℕ). let z : BlockState × Option ℕ = (stepped h h.current.variables (Rattle.mid_blocks.specs.Run.store_to h.globals g x (word_in h.current.variables from)) h.feed h.output, None) in z) qi.value ∙
+      ap (λ (x : ℕ). let z : BlockState × Option ℕ = (stepped h h.current.variables (Rattle.mid_blocks.specs.Run.store_to h.globals g i x) h.feed h.output, None) in z) q.value))
     where
       globals_below : (mid : Mid) → {c : ℕ} → c < global_cells mid → c < cells mid
       globals_below mid {c} h = omega arith
@@ -467,7 +467,7 @@ module _ (mid : Mid) (places : List Places) (p : HardProgram) (input : List ℕ)
       let start : before p b (code ++ more) Onward r.d ≡ l = ap (λ (z : List Item). before p b z Onward r.d) (sym (rest_is mid h.current.function r.f r.at r.block h.current.step s e)) ∙ sym r.spot in
       let m : Spot = before p b more Onward x.now in
       stage_speaks mid places p input h h' l x.last m x.steps q.word r.going
-      (subst (λ (z : Spot). Rattle.hard_words.specs.Stepping.Leads (items p) (Rattle.double_law.proofs.Leading.Good p) x.steps z x.last) start x.leads) x.open_ x.good x.speak
+      (subst (λ (z : Spot). Rattle.hard_runs.specs.Stepping.Leads (items p) (Rattle.double_law.proofs.Leading.Good p) x.steps z x.last) start x.leads) x.open_ x.good x.speak
       (steps_to s e ∙ ap (λ (w : ℕ). let z : BlockState × Option ℕ = (stepped h h.current.variables h.globals h.feed (h.output ++ w ∷ []), Some w) in z) q.value) (
         zero,
         m,

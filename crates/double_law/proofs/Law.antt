@@ -2,19 +2,19 @@
 use Rattle.std.proofs.Common.{◌≡◌, ◌≤◌, ◌<◌, ℕ, zero, suc, ◌+◌, ◌-◌, ◌^◌, arith, ap, refl, sym, ◌∙◌, subst, List, [], ◌∷◌, ◌++◌, length, get_or, map, inl, inr, flat_map, sum, le_trans}
 use Rattle.std.specs.Prelude.{Option, Some, None, slice_get, slice_index, slice_index_or, All}
 use Rattle.std.proofs.lemmas.List.{get_or_append_left, get_or-append_right}
-use Rattle.mid_code.specs.declared.code.MidFunction.{MidFunction}
-use Rattle.mid_code.specs.declared.code.MidBlock.{MidBlock}
-use Rattle.mid_code.specs.declared.code.Mid.{Mid}
-use Rattle.mid_code.specs.declared.places.Places.{Places}
-use Rattle.mid_code.specs.Liveness.{PlacesFit}
-use Rattle.mid_code.specs.Valid.{ValidFunction}
+use Rattle.mid_blocks.specs.declared.code.MidFunction.{MidFunction}
+use Rattle.mid_blocks.specs.declared.code.MidBlock.{MidBlock}
+use Rattle.mid_blocks.specs.declared.code.Mid.{Mid}
+use Rattle.mid_blocks.specs.declared.places.Places.{Places}
+use Rattle.mid_blocks.specs.Liveness.{PlacesFit}
+use Rattle.mid_blocks.specs.Valid.{ValidFunction}
 use Rattle.hard_words.specs.Words.{AreWords}
-use Rattle.mid_code.specs.Bounds.{pairs_of}
-use Rattle.hard_code.specs.declared.code.HardProgram.{HardProgram}
+use Rattle.mid_blocks.specs.Bounds.{pairs_of}
+use Rattle.hard_items.specs.declared.code.HardProgram.{HardProgram}
 use Rattle.frame_plan.specs.Frames.{global_cells, global_length}
 use Rattle.double_law.specs.Law.{Doubles, DoubledRuns}
 use Rattle.double_law.proofs.Few.{few_blocks}
-use Rattle.double_law.proofs.Relation.{sum_cons}
+use Rattle.hard_words.proofs.Sums.{sum_cons}
 use Rattle.double_law.proofs.Flows.{flow}
 use Rattle.double_law.proofs.Wiring.{wired, all_at, there}
 use Rattle.double_law.proofs.Blocks.{all_bare}

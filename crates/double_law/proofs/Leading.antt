@@ -1,20 +1,20 @@
 -- Items that lead from data that both streams agree on to such data again.
 use Rattle.std.proofs.Common.{◌≡◌, ◌≢◌, ◌≤◌, ◌<◌, ℕ, zero, suc, ◌+◌, ◌-◌, ◌*◌, ◌/◌, ◌%◌, ◌^◌, arith, ap, refl, sym, ◌∙◌, subst, List, [], ◌∷◌, ◌++◌, append_assoc, length, get_or, Bool, true, false, cond, inl, inr, le_refl}
 use Rattle.std.specs.Prelude.{Option, Some, None}
-use Rattle.hard_words.specs.Stepping.{Leads}
-use Rattle.hard_words.proofs.Following.{leads_on}
+use Rattle.hard_runs.specs.Stepping.{Leads}
+use Rattle.hard_runs.proofs.Following.{leads_on}
 use Rattle.mips_isa.specs.declared.instr.Instr.{Instr}
 use Rattle.mips_isa.specs.declared.instr.Act.{Act}
 use Rattle.mips_isa.specs.declared.instr.Act.TheVariants.{Write, Move, Both}
 use Rattle.mips_isa.specs.declared.instr.End.TheVariants.{Exception}
 use Rattle.mips_isa.specs.Machine as machine
-use Rattle.hard_code.specs.declared.code.Class.{Class}
-use Rattle.hard_code.specs.declared.code.Item.{Item}
-use Rattle.hard_code.specs.declared.code.HardProgram.{HardProgram}
-use Rattle.hard_code.specs.Streams.{plain}
-use Rattle.hard_code.specs.Run.{Data, Spot, Way, Onward, items, before, item_act, machine_of, way_of, held, makes_number, is_call, do_item}
-use Rattle.hard_code.specs.Rules.{LawfulAt, AgreesAt, Placed, Returns, Reads, NoException, checks_of, SameIn}
-use Rattle.hard_code.specs.Forms.{Each}
+use Rattle.hard_items.specs.declared.code.Class.{Class}
+use Rattle.hard_items.specs.declared.code.Item.{Item}
+use Rattle.hard_items.specs.declared.code.HardProgram.{HardProgram}
+use Rattle.hard_items.specs.Streams.{plain}
+use Rattle.hard_items.specs.Run.{Data, Spot, Way, Onward, items, before, item_act, machine_of, way_of, held, makes_number, is_call, do_item}
+use Rattle.hard_items.specs.Rules.{LawfulAt, AgreesAt, Placed, Returns, Reads, NoException, checks_of, SameIn}
+use Rattle.hard_items.specs.Forms.{Each}
 use Rattle.double_law.specs.declared.roles.Stream.{Stream}
 use Rattle.double_law.specs.declared.roles.Stream.TheVariants.{First, Second}
 use Rattle.double_law.specs.declared.roles.Role.{Role}
@@ -132,7 +132,7 @@ made_false : (f : Stream → Instr) (t : Stream) → is_call (f t) ≡ false →
 made_false f t h = ap (λ (z : Bool). cond z true false) h
 
 pub act_plain : (b : ℕ) (i : Instr) (c : Class) (d : Data) (x v : ℕ) → machine.act i (machine_of d) ≡ Write x v → item_act b (plain i c) d ≡ Write x v
-act_plain b i c d x v e = ap (λ (a : Act). Rattle.hard_code.specs.Run.numbered b a) e
+act_plain b i c d x v e = ap (λ (a : Act). Rattle.hard_items.specs.Run.numbered b a) e
 
 -- one of the two items: its stream writes, the other stays
 pub one_write : (p : HardProgram) (size b : ℕ) (f : Stream → Instr) (r : Role) (a : Pairs) (v : ℕ) (t : Stream) (more : List Item) (d : Data) → Computes p size f r a v → Sound size d a → Sees size t d a →

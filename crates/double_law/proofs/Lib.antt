@@ -18,3 +18,14 @@ pub mod Few
 pub mod Law
 pub mod Formed
 pub mod Blocks
+pub mod Emits
+pub mod Closed
+pub mod Says
+pub mod Numbers
+pub mod BlockKinds
+pub mod Wholes
+pub mod Wells
+pub mod Counts
+pub mod Loads
+pub mod Sums
+pub mod Reloads

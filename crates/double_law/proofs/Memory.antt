@@ -2,8 +2,8 @@
 use Rattle.std.proofs.Common.{◌≡◌, ◌≢◌, ◌≤◌, ◌<◌, ℕ, zero, suc, ◌+◌, ◌-◌, ◌*◌, ◌/◌, ◌%◌, ◌^◌, arith, ap, refl, sym, ◌∙◌, subst, List, [], ◌∷◌, ◌++◌, append_assoc, length, get_or, Bool, true, false, cond, not, inl, inr, le_refl, get_or-set_same, get_or-set_other, length-set}
 use Rattle.std.specs.Prelude.{Option, None, ◌==◌, ◌&&◌, nat_le, nat_lt, slice_index, slice_set, if◌then◌else◌, IsTrue}
 use Rattle.hard_words.specs.Words.{extended}
-use Rattle.hard_words.specs.Stepping.{Leads}
-use Rattle.hard_words.proofs.Following.{leads_on}
+use Rattle.hard_runs.specs.Stepping.{Leads}
+use Rattle.hard_runs.proofs.Following.{leads_on}
 use Rattle.mips_isa.specs.declared.instr.Instr.{Instr}
 use Rattle.mips_isa.specs.declared.instr.Instr.TheVariants as mips
 use Rattle.mips_isa.specs.declared.instr.Act.{Act}
@@ -11,13 +11,13 @@ use Rattle.mips_isa.specs.declared.instr.Act.TheVariants.{Move, Both, Load, Stor
 use Rattle.mips_isa.specs.declared.instr.End.TheVariants.{Exception}
 use Rattle.mips_isa.specs.Machine as machine
 use Rattle.mips_isa.specs.Machine.{plus, place}
-use Rattle.hard_code.specs.declared.code.Class.TheVariants as class
-use Rattle.hard_code.specs.declared.code.Item.{Item}
-use Rattle.hard_code.specs.declared.code.HardProgram.{HardProgram}
-use Rattle.hard_code.specs.Streams.{plain, is_master, is_shadow, shadow_of}
-use Rattle.hard_code.specs.Run.{Data, Spot, Way, Onward, items, before, item_act, machine_of, way_of, held, makes_number, is_call, do_item, settled, marked, marked_reg}
-use Rattle.hard_code.specs.Rules.{Placed, Returns, Reads, NoException, checks_of, SameIn, Parity}
-use Rattle.hard_code.specs.Forms.{Each}
+use Rattle.hard_items.specs.declared.code.Class.TheVariants as class
+use Rattle.hard_items.specs.declared.code.Item.{Item}
+use Rattle.hard_items.specs.declared.code.HardProgram.{HardProgram}
+use Rattle.hard_items.specs.Streams.{plain, is_master, is_shadow, shadow_of}
+use Rattle.hard_items.specs.Run.{Data, Spot, Way, Onward, items, before, item_act, machine_of, way_of, held, makes_number, is_call, do_item, settled, marked, marked_reg}
+use Rattle.hard_items.specs.Rules.{Placed, Returns, Reads, NoException, checks_of, SameIn, Parity}
+use Rattle.hard_items.specs.Forms.{Each}
 use Rattle.double_law.specs.declared.roles.Stream.{Stream}
 use Rattle.double_law.specs.declared.roles.Stream.TheVariants.{First, Second}
 use Rattle.double_law.specs.declared.roles.Role.{Role}
@@ -367,9 +367,9 @@ product_alone : (p : HardProgram) (size b : ℕ) (f g : Stream → Instr) (r : R
 product_alone p size b f g r a v t m more d s e =
     let i : Item = item_in f t in
     let j : Item = item_in g t in
-    let act : item_act b i d ≡ Both m.high m.low = ap (λ (z : Act). Rattle.hard_code.specs.Run.numbered b z) (m.act t d s e) in
+    let act : item_act b i d ≡ Both m.high m.low = ap (λ (z : Act). Rattle.hard_items.specs.Run.numbered b z) (m.act t d s e) in
     let d1 : Data = with_halves d m.high m.low in
-    let move : item_act b j d1 ≡ Move (reg_in t r) v = ap (λ (z : Act). Rattle.hard_code.specs.Run.numbered b z) (m.move t d) in
+    let move : item_act b j d1 ≡ Move (reg_in t r) v = ap (λ (z : Act). Rattle.hard_items.specs.Run.numbered b z) (m.move t d) in
     let s1 : Sound size d1 a = record { regs = s.regs; memory = s.memory; zero_ = s.zero_; zero_back = s.zero_back; two_back = s.two_back; feed = s.feed; fed = s.fed } in
     let e1 : Sees size t d1 a = record { file = e.file; backs = e.backs; cell = e.cell; number = e.number } in
     let d2 : Data = wrote d1 (reg_in t r) v false in

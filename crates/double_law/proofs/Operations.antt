@@ -10,13 +10,13 @@ use Rattle.mips_isa.specs.declared.instr.Instr.TheVariants as mips
 use Rattle.mips_isa.specs.declared.instr.Act.TheVariants.{Write, Both}
 use Rattle.mips_isa.specs.Machine as machine
 use Rattle.mips_isa.specs.Machine.{plus}
-use Rattle.mid_code.specs.declared.code.MidOp.{MidOp}
-use Rattle.mid_code.specs.declared.code.MidOp.TheVariants as op
-use Rattle.mid_code.specs.Run.{operate, truth, by_non_zero, with_sign}
-use Rattle.hard_code.specs.declared.code.Item.{Item}
-use Rattle.hard_code.specs.declared.code.HardProgram.{HardProgram}
-use Rattle.hard_code.specs.Run.{Data, Onward, machine_of, way_of, held, is_call}
-use Rattle.hard_code.specs.Rules.{Placed, Returns, Reads}
+use Rattle.mid_blocks.specs.declared.code.MidOp.{MidOp}
+use Rattle.mid_blocks.specs.declared.code.MidOp.TheVariants as op
+use Rattle.mid_blocks.specs.Run.{operate, truth, by_non_zero, with_sign}
+use Rattle.hard_items.specs.declared.code.Item.{Item}
+use Rattle.hard_items.specs.declared.code.HardProgram.{HardProgram}
+use Rattle.hard_items.specs.Run.{Data, Onward, machine_of, way_of, held, is_call}
+use Rattle.hard_items.specs.Rules.{Placed, Returns, Reads}
 use Rattle.double_law.specs.declared.roles.Role.{Role}
 use Rattle.double_law.specs.declared.roles.Role.TheVariants.{Value, Stack, Link}
 use Rattle.double_law.specs.Roles.{reg_in, both, product, move}

@@ -3,11 +3,11 @@ use Rattle.std.proofs.Common.{◌≡◌, ◌≢◌, ◌≤◌, ◌<◌, ℕ, zer
 use Rattle.std.specs.Prelude.{Option, Some, None, ◌==◌}
 use Rattle.hard_words.specs.Words.{extended}
 use Rattle.mips_isa.specs.Machine.{plus}
-use Rattle.mid_code.specs.declared.places.Place.{Place}
-use Rattle.mid_code.specs.declared.places.Place.TheVariants.{Pair, Slot}
-use Rattle.mid_code.specs.declared.places.Places.{Places}
-use Rattle.mid_code.specs.Run.{Variables, with_word}
-use Rattle.hard_code.specs.declared.code.HardProgram.{HardProgram}
+use Rattle.mid_blocks.specs.declared.places.Place.{Place}
+use Rattle.mid_blocks.specs.declared.places.Place.TheVariants.{Pair, Slot}
+use Rattle.mid_blocks.specs.declared.places.Places.{Places}
+use Rattle.mid_blocks.specs.Run.{Variables, with_word}
+use Rattle.hard_items.specs.declared.code.HardProgram.{HardProgram}
 use Rattle.double_law.specs.declared.roles.Stream.TheVariants.{First, Second}
 use Rattle.double_law.specs.declared.roles.Role.{Role}
 use Rattle.double_law.specs.declared.roles.Role.TheVariants.{Value, Stack, Link}

@@ -1,27 +1,28 @@
 -- A state of the block machine and one of the machine of items beside it.
 use Rattle.std.proofs.Common.{◌≡◌, ◌≢◌, ◌≤◌, ◌<◌, ℕ, zero, suc, ◌+◌, ◌-◌, ◌*◌, ◌/◌, ◌%◌, ◌^◌, arith, ap, refl, sym, ◌∙◌, subst, List, [], ◌∷◌, ◌++◌, append_assoc, length, get_or, take, drop, map, Bool, true, false, cond, not, inl, inr, le_refl, le_trans, sum, flat_map, get_or-set_same, get_or-set_other}
 use Rattle.std.specs.Prelude.{Option, Some, None, ◌⊎◌, ◌==◌, slice_get, slice_index_or, slice_set, Contains}
-use Rattle.mid_code.specs.declared.code.MidStep.{MidStep}
-use Rattle.mid_code.specs.declared.code.MidEnd.{MidEnd}
-use Rattle.mid_code.specs.declared.code.MidEnd.TheVariants as line
-use Rattle.mid_code.specs.declared.code.MidBlock.{MidBlock}
-use Rattle.mid_code.specs.declared.code.MidFunction.{MidFunction}
-use Rattle.mid_code.specs.declared.code.Mid.{Mid}
-use Rattle.mid_code.specs.declared.places.Place.{Place}
-use Rattle.mid_code.specs.declared.places.Place.TheVariants.{Pair, Slot}
-use Rattle.mid_code.specs.declared.places.Places.{Places}
-use Rattle.mid_code.specs.Lines.{step_reads, step_writes, end_reads, first_of}
-use Rattle.mid_code.specs.Liveness.{IsWanted}
-use Rattle.mid_code.specs.Run.{Active, BlockState, Variables, word_in, load_from, global_in, after_step, do_line, block_step, next_line, unless_ended}
-use Rattle.hard_code.specs.declared.code.Item.{Item}
-use Rattle.hard_code.specs.declared.code.HardProgram.{HardProgram}
-use Rattle.hard_code.specs.Run.{Data, Spot, before, Onward}
+use Rattle.mid_blocks.specs.declared.code.MidStep.{MidStep}
+use Rattle.mid_blocks.specs.declared.code.MidEnd.{MidEnd}
+use Rattle.mid_blocks.specs.declared.code.MidEnd.TheVariants as line
+use Rattle.mid_blocks.specs.declared.code.MidBlock.{MidBlock}
+use Rattle.mid_blocks.specs.declared.code.MidFunction.{MidFunction}
+use Rattle.mid_blocks.specs.declared.code.Mid.{Mid}
+use Rattle.mid_blocks.specs.declared.places.Place.{Place}
+use Rattle.mid_blocks.specs.declared.places.Place.TheVariants.{Pair, Slot}
+use Rattle.mid_blocks.specs.declared.places.Places.{Places}
+use Rattle.mid_blocks.specs.Lines.{step_reads, step_writes, end_reads, first_of}
+use Rattle.mid_blocks.specs.Liveness.{IsWanted}
+use Rattle.mid_blocks.specs.Run.{Active, BlockState, Variables, word_in, load_from, global_in, after_step, do_line, block_step, next_line, unless_ended}
+use Rattle.hard_items.specs.declared.code.Item.{Item}
+use Rattle.hard_items.specs.declared.code.HardProgram.{HardProgram}
+use Rattle.hard_items.specs.Run.{Data, Spot, before, Onward}
 use Rattle.double_law.specs.Emitted.{place_of, step_items, end_items}
 use Rattle.frame_plan.specs.Frames.{cell_address, global_cell, global_length, global_cells, cells}
 use Rattle.double_law.specs.Program.{first_block}
 use Rattle.double_law.proofs.Doubled.{Pairs, Doubled}
 use Rattle.double_law.proofs.Places.{Frame, PlaceFits, Near, SetsPlace, NotCell, Holds}
 use Rattle.double_law.proofs.Steps.{SetsCell}
+use Rattle.hard_words.proofs.Sums.{sum_cons}
 
 -- ---- liveness, as the relation needs it
 
@@ -183,19 +184,6 @@ cell_outside mid pairs top c w a a' h k s = record { cell = λ q x. s.cell q (gl
 
 -- ---- cells of globals
 
-fold_from : (a : ℕ) (xs : List ℕ) → Rattle.std.proofs.Common.fold ◌+◌ a xs ≡ a + sum xs
-fold_from a [] = sym (Rattle.std.proofs.Common.add-zero a)
-fold_from a (x ∷ xs) = joined (a + x) (0 + x) (sum xs) (fold_from (a + x) xs) (fold_from (0 + x) xs) refl refl
-  where
-    joined : (n m s : ℕ) → {u v : ℕ} → u ≡ n + s → v ≡ m + s → n ≡ a + x → m ≡ 0 + x → u ≡ a + v
-    joined n m s {u} {v} e f g h = omega arith
-
-pub sum_cons : (x : ℕ) (xs : List ℕ) → sum (x ∷ xs) ≡ x + sum xs
-sum_cons x xs = fold_from (0 + x) xs ∙ plain (sum xs)
-  where
-    plain : (s : ℕ) → 0 + x + s ≡ x + s
-    plain s = omega arith
-
 -- the cells of a list of lengths
 cell_in : (xs : List (List ℕ)) (g i : ℕ) → i < length (slice_index_or xs g []) → sum (map length (take g xs)) + i < sum (map length xs)
 cell_in [] g i h = absurd (Rattle.std.proofs.Common.not-suc-le-zero h)
@@ -258,9 +246,9 @@ eq_is m n h = grind arith
 eq_not : (m n : ℕ) → (m == n) ≡ false → m ≢ n
 eq_not m n h = grind arith
 
-pub stores_globals : (mid : Mid) (globals : List (List ℕ)) (g i w : ℕ) (a a' : Pairs) → g < length mid.globals → i < global_length mid g → SetsCell a a' (global_cell mid g + i) w → GlobalsHold mid globals a → GlobalsHold mid (Rattle.mid_code.specs.Run.store_to globals g i w) a'
+pub stores_globals : (mid : Mid) (globals : List (List ℕ)) (g i w : ℕ) (a a' : Pairs) → g < length mid.globals → i < global_length mid g → SetsCell a a' (global_cell mid g + i) w → GlobalsHold mid globals a → GlobalsHold mid (Rattle.mid_blocks.specs.Run.store_to globals g i w) a'
 stores_globals mid globals g i w a a' hg hi s q = record {
-  word = λ k j hk hj. elim (k == g) as (λ z. (k == g) ≡ z → a'.cell (global_cell mid k + j) ≡ load_from (Rattle.mid_code.specs.Run.store_to globals g i w) k j) [
+  word = λ k j hk hj. elim (k == g) as (λ z. (k == g) ≡ z → a'.cell (global_cell mid k + j) ≡ load_from (Rattle.mid_blocks.specs.Run.store_to globals g i w) k j) [
     | true ↦ λ e. by_same k j hk hj (eq_is k g e)
     | false ↦ λ e. s.cell (global_cell mid k + j) (λ z. eq_not k g e (cells_differ mid.globals k j g i hj hi z).0) ∙
         (q.word k j hk hj ∙ sym (ap (λ (x : List ℕ). slice_index_or x j 0) (get_or-set_other globals g k (slice_set (global_in globals g) i w) [] (eq_not k g e))))
@@ -269,8 +257,8 @@ stores_globals mid globals g i w a a' hg hi s q = record {
     | true ↦ λ e. ap (λ (c : ℕ). a'.number c) (eq_is (global_cell mid k + j) (global_cell mid g + i) e) ∙ s.unnumbered
     | false ↦ λ e. s.number (global_cell mid k + j) (eq_not (global_cell mid k + j) (global_cell mid g + i) e) ∙ q.unnumbered k j hk hj
   ] refl;
-  lengths = λ k. elim (k == g) as (λ z. (k == g) ≡ z → length (global_in (Rattle.mid_code.specs.Run.store_to globals g i w) k) ≡ global_length mid k) [
-    | true ↦ λ e. subst (λ (x : ℕ). length (global_in (Rattle.mid_code.specs.Run.store_to globals g i w) x) ≡ global_length mid x) (sym (eq_is k g e))
+  lengths = λ k. elim (k == g) as (λ z. (k == g) ≡ z → length (global_in (Rattle.mid_blocks.specs.Run.store_to globals g i w) k) ≡ global_length mid k) [
+    | true ↦ λ e. subst (λ (x : ℕ). length (global_in (Rattle.mid_blocks.specs.Run.store_to globals g i w) x) ≡ global_length mid x) (sym (eq_is k g e))
         (ap (λ (x : List ℕ). length x) (get_or-set_same globals g (slice_set (global_in globals g) i w) [] there) ∙ (Rattle.std.proofs.Common.length-set (global_in globals g) i w ∙ q.lengths g))
     | false ↦ λ e. ap (λ (x : List ℕ). length x) (get_or-set_other globals g k (slice_set (global_in globals g) i w) [] (eq_not k g e)) ∙ q.lengths k
   ] refl;
@@ -283,10 +271,10 @@ stores_globals mid globals g i w a a' hg hi s q = record {
     within : i < length (global_in globals g)
     within = subst (λ (n : ℕ). i < n) (sym (q.lengths g)) hi
 
-    by_same : (k j : ℕ) → k < length mid.globals → j < global_length mid k → k ≡ g → a'.cell (global_cell mid k + j) ≡ load_from (Rattle.mid_code.specs.Run.store_to globals g i w) k j
-    by_same k j hk hj e = subst (λ (x : ℕ). a'.cell (global_cell mid x + j) ≡ load_from (Rattle.mid_code.specs.Run.store_to globals g i w) x j) (sym e)
-        (elim (j == i) as (λ z. (j == i) ≡ z → a'.cell (global_cell mid g + j) ≡ load_from (Rattle.mid_code.specs.Run.store_to globals g i w) g j) [
-          | true ↦ λ t. subst (λ (x : ℕ). a'.cell (global_cell mid g + x) ≡ load_from (Rattle.mid_code.specs.Run.store_to globals g i w) g x) (sym (eq_is j i t))
+    by_same : (k j : ℕ) → k < length mid.globals → j < global_length mid k → k ≡ g → a'.cell (global_cell mid k + j) ≡ load_from (Rattle.mid_blocks.specs.Run.store_to globals g i w) k j
+    by_same k j hk hj e = subst (λ (x : ℕ). a'.cell (global_cell mid x + j) ≡ load_from (Rattle.mid_blocks.specs.Run.store_to globals g i w) x j) (sym e)
+        (elim (j == i) as (λ z. (j == i) ≡ z → a'.cell (global_cell mid g + j) ≡ load_from (Rattle.mid_blocks.specs.Run.store_to globals g i w) g j) [
+          | true ↦ λ t. subst (λ (x : ℕ). a'.cell (global_cell mid g + x) ≡ load_from (Rattle.mid_blocks.specs.Run.store_to globals g i w) g x) (sym (eq_is j i t))
               (s.there ∙ sym (ap (λ (x : List ℕ). slice_index_or x i 0) (get_or-set_same globals g (slice_set (global_in globals g) i w) [] there) ∙ get_or-set_same (global_in globals g) i w 0 within))
           | false ↦ λ t. s.cell (global_cell mid g + j) (λ z. eq_not j i t (cells_differ mid.globals g j g i (subst (λ (x : ℕ). j < global_length mid x) e hj) hi z).1) ∙
               (q.word g j hg (subst (λ (x : ℕ). j < global_length mid x) e hj) ∙ sym (ap (λ (x : List ℕ). slice_index_or x j 0) (get_or-set_same globals g (slice_set (global_in globals g) i w) [] there) ∙ get_or-set_other (global_in globals g) i j w 0 (eq_not j i t)))

@@ -3,21 +3,21 @@ use Rattle.std.proofs.Common.{◌≡◌, ◌≢◌, ◌≤◌, ◌<◌, ℕ, zer
 use Rattle.std.specs.Prelude.{Option, Some, None, slice_get, slice_index}
 use Rattle.std.proofs.lemmas.Option.{slice_get_within, get_or_from_slice_get}
 use Rattle.std.proofs.lemmas.List.{drop_more}
-use Rattle.hard_words.specs.Stepping.{Quiet, Leads, on, over, Stage, put}
-use Rattle.hard_words.proofs.Following.{leads_on}
+use Rattle.hard_runs.specs.Stepping.{Quiet, Leads, on, over, Stage, put}
+use Rattle.hard_runs.proofs.Following.{leads_on}
 use Rattle.mips_isa.specs.declared.instr.End.{End}
-use Rattle.mid_code.specs.declared.code.MidStep.{MidStep}
-use Rattle.mid_code.specs.declared.code.MidBlock.{MidBlock}
-use Rattle.mid_code.specs.declared.code.MidFunction.{MidFunction}
-use Rattle.mid_code.specs.declared.code.Mid.{Mid}
-use Rattle.mid_code.specs.declared.code.RunEnd.{RunEnd}
-use Rattle.mid_code.specs.declared.places.Place.{Place}
-use Rattle.mid_code.specs.declared.places.Places.{Places}
-use Rattle.mid_code.specs.Lines.{Line, Step, End as EndLine, step_reads, step_writes, line_of}
-use Rattle.mid_code.specs.Run.{Active, BlockState, Variables, word_in, after_step, do_line, block_step, next_line, unless_ended, with_word}
-use Rattle.hard_code.specs.declared.code.Item.{Item}
-use Rattle.hard_code.specs.declared.code.HardProgram.{HardProgram}
-use Rattle.hard_code.specs.Run.{Data, Spot, items, before, Onward}
+use Rattle.mid_blocks.specs.declared.code.MidStep.{MidStep}
+use Rattle.mid_blocks.specs.declared.code.MidBlock.{MidBlock}
+use Rattle.mid_blocks.specs.declared.code.MidFunction.{MidFunction}
+use Rattle.mid_blocks.specs.declared.code.Mid.{Mid}
+use Rattle.mid_blocks.specs.declared.code.RunEnd.{RunEnd}
+use Rattle.mid_blocks.specs.declared.places.Place.{Place}
+use Rattle.mid_blocks.specs.declared.places.Places.{Places}
+use Rattle.mid_blocks.specs.Lines.{Line, Step, End as EndLine, step_reads, step_writes, line_of}
+use Rattle.mid_blocks.specs.Run.{Active, BlockState, Variables, word_in, after_step, do_line, block_step, next_line, unless_ended, with_word}
+use Rattle.hard_items.specs.declared.code.Item.{Item}
+use Rattle.hard_items.specs.declared.code.HardProgram.{HardProgram}
+use Rattle.hard_items.specs.Run.{Data, Spot, items, before, Onward}
 use Rattle.double_law.specs.Emitted.{place_of, step_items, end_items}
 use Rattle.frame_plan.specs.Frames.{cell_address, global_cell, global_length, cells}
 use Rattle.double_law.specs.Program.{first_block}
@@ -117,8 +117,8 @@ stage_behind mid places p input h l m k leads s = record {
 
 pub line_is : (mid : Mid) (h : BlockState) (f : MidFunction) (b : MidBlock) → slice_get mid.functions h.current.function ≡ Some f → slice_get f.blocks h.current.block ≡ Some b → next_line mid h ≡ Some (line_of (slice_get b.steps h.current.step) b.end)
 line_is mid h f b e g =
-    ap (λ (x : Option MidFunction). Rattle.mid_code.specs.Run.line_in_function x h.current) e ∙
-    ap (λ (x : Option MidBlock). Rattle.mid_code.specs.Lines.line_in x h.current.step) g
+    ap (λ (x : Option MidFunction). Rattle.mid_blocks.specs.Run.line_in_function x h.current) e ∙
+    ap (λ (x : Option MidBlock). Rattle.mid_blocks.specs.Lines.line_in x h.current.step) g
 
 pub high_step : (mid : Mid) (h : BlockState) (line : Line) → h.end ≡ None → next_line mid h ≡ Some line → (blocks mid).step h ≡ (do_line (Some line) h, line_says (Some line) h)
 high_step mid h line e g =

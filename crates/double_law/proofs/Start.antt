@@ -2,17 +2,17 @@
 use Rattle.std.proofs.Common.{◌≡◌, ◌≢◌, ◌≤◌, ◌<◌, ℕ, zero, suc, ◌+◌, ◌-◌, ◌*◌, ◌/◌, ◌%◌, ◌^◌, arith, ap, refl, sym, ◌∙◌, subst, List, [], ◌∷◌, ◌++◌, append_assoc, append-nil, length, get_or, take, drop, map, replicate, Bool, true, false, cond, not, inl, inr, le_refl, le_trans, flat_map, sum, add-zero}
 use Rattle.std.specs.Prelude.{Option, Some, None, slice_get, slice_index, slice_index_or, bit_or}
 use Rattle.std.proofs.lemmas.Nat.{or_shifted}
-use Rattle.hard_words.specs.Stepping.{Leads}
-use Rattle.hard_words.proofs.Following.{leads_on}
+use Rattle.hard_runs.specs.Stepping.{Leads}
+use Rattle.hard_runs.proofs.Following.{leads_on}
 use Rattle.mips_isa.specs.declared.instr.Instr.TheVariants as mips
-use Rattle.mid_code.specs.declared.code.MidBlock.{MidBlock}
-use Rattle.mid_code.specs.declared.code.MidFunction.{MidFunction}
-use Rattle.mid_code.specs.declared.code.Mid.{Mid}
-use Rattle.mid_code.specs.declared.places.Places.{Places}
-use Rattle.mid_code.specs.Run.{first_state}
-use Rattle.hard_code.specs.declared.code.Item.{Item}
-use Rattle.hard_code.specs.declared.code.HardProgram.{HardProgram}
-use Rattle.hard_code.specs.Run.{Data, Spot, items, before, at_block, Onward, first_data, first_spot}
+use Rattle.mid_blocks.specs.declared.code.MidBlock.{MidBlock}
+use Rattle.mid_blocks.specs.declared.code.MidFunction.{MidFunction}
+use Rattle.mid_blocks.specs.declared.code.Mid.{Mid}
+use Rattle.mid_blocks.specs.declared.places.Places.{Places}
+use Rattle.mid_blocks.specs.Run.{first_state}
+use Rattle.hard_items.specs.declared.code.Item.{Item}
+use Rattle.hard_items.specs.declared.code.HardProgram.{HardProgram}
+use Rattle.hard_items.specs.Run.{Data, Spot, items, before, at_block, Onward, first_data, first_spot}
 use Rattle.double_law.specs.declared.roles.Stream.{Stream}
 use Rattle.double_law.specs.declared.roles.Stream.TheVariants.{First, Second}
 use Rattle.double_law.specs.declared.roles.Role.{Role}
@@ -26,7 +26,8 @@ use Rattle.double_law.proofs.Leading.{Good, Done, Does, does_then}
 use Rattle.double_law.proofs.Control.{Goes, goes_then, goes_call}
 use Rattle.double_law.proofs.Operations.{does_zero, does_two, two_lui, two_ori, put_word, put_twice, does_same, Free}
 use Rattle.double_law.proofs.Calls.{StackAt, Entered, enters}
-use Rattle.double_law.proofs.Relation.{Flow, rest_items, sum_cons, global_below}
+use Rattle.hard_words.proofs.Sums.{sum_cons}
+use Rattle.double_law.proofs.Relation.{Flow, rest_items, global_below}
 use Rattle.double_law.proofs.Stages.{R, Setting}
 use Rattle.double_law.proofs.Ends.{Wired, arrives, at_before}
 

@@ -1,32 +1,33 @@
 -- The whole: what the program of items does is what the program in blocks does, and each of its states is good.
 use Rattle.std.proofs.Common.{◌≡◌, ◌≢◌, ◌≤◌, ◌<◌, ℕ, zero, suc, ◌+◌, ◌-◌, ◌*◌, ◌^◌, arith, ap, refl, sym, ◌∙◌, subst, List, [], ◌∷◌, ◌++◌, append_assoc, append-nil, length, map, Bool, true, false, cond, inl, inr, le_refl, le_trans, flat_map, sum}
 use Rattle.std.specs.Prelude.{Option, Some, None, Ok, Err, ◌==◌, nat_lt, slice_get, slice_index}
-use Rattle.hard_words.specs.Observed.{Seen, Observation, SameObserved}
-use Rattle.hard_words.specs.Stepping.{Stands, Always, Follows, go, put, watch}
-use Rattle.hard_words.proofs.Following.{follows}
+use Rattle.hard_runs.specs.Observed.{Seen, Observation, SameObserved}
+use Rattle.hard_runs.specs.Stepping.{Stands, Always, Follows, go, put, watch}
+use Rattle.hard_runs.proofs.Following.{follows}
 use Rattle.mips_isa.specs.declared.instr.End.{End}
-use Rattle.mid_code.specs.declared.code.MidStep.{MidStep}
-use Rattle.mid_code.specs.declared.code.MidStep.TheVariants.{Constant, Copy, Operate, Guard, Load, Store, Input, Output, Deep}
-use Rattle.mid_code.specs.declared.code.MidEnd.{MidEnd}
-use Rattle.mid_code.specs.declared.code.MidEnd.TheVariants.{Jump, Branch, Call, Return}
-use Rattle.mid_code.specs.declared.code.MidBlock.{MidBlock}
-use Rattle.mid_code.specs.declared.code.MidFunction.{MidFunction}
-use Rattle.mid_code.specs.declared.code.Mid.{Mid}
-use Rattle.mid_code.specs.declared.code.RunEnd.{RunEnd}
-use Rattle.mid_code.specs.declared.places.Places.{Places}
-use Rattle.mid_code.specs.Lines.{Line, Step, End as EndLine, line_of}
-use Rattle.mid_code.specs.Run.{Active, BlockState, Variables, word_in, index_in, global_in, operate, sets_or_traps, takes_in, passes, ends, do_line, do_step, do_end, returns, block_step, next_line, unless_ended, first_state, block_state, block_run, entry}
-use Rattle.mid_code.specs.Run as run
+use Rattle.mid_blocks.specs.declared.code.MidStep.{MidStep}
+use Rattle.mid_blocks.specs.declared.code.MidStep.TheVariants.{Constant, Copy, Operate, Guard, Load, Store, Input, Output, Deep}
+use Rattle.mid_blocks.specs.declared.code.MidEnd.{MidEnd}
+use Rattle.mid_blocks.specs.declared.code.MidEnd.TheVariants.{Jump, Branch, Call, Return}
+use Rattle.mid_blocks.specs.declared.code.MidBlock.{MidBlock}
+use Rattle.mid_blocks.specs.declared.code.MidFunction.{MidFunction}
+use Rattle.mid_blocks.specs.declared.code.Mid.{Mid}
+use Rattle.mid_blocks.specs.declared.code.RunEnd.{RunEnd}
+use Rattle.mid_blocks.specs.declared.places.Places.{Places}
+use Rattle.mid_blocks.specs.Lines.{Line, Step, End as EndLine, line_of}
+use Rattle.mid_blocks.specs.Run.{Active, BlockState, Variables, word_in, index_in, global_in, operate, sets_or_traps, takes_in, passes, ends, do_line, do_step, do_end, returns, block_step, next_line, unless_ended, first_state, block_state, block_run, entry}
+use Rattle.mid_blocks.specs.Run as run
 use Rattle.hard_words.specs.Words.{AreWords}
-use Rattle.mid_code.specs.Bounds.{ProperLine, Proper, Shallow, pairs_now, pairs_of}
-use Rattle.hard_code.specs.declared.code.HardProgram.{HardProgram}
-use Rattle.hard_code.specs.Run.{Spot, items, first_spot, item_run, step_from}
+use Rattle.mid_blocks.specs.Bounds.{ProperLine, Proper, Shallow, pairs_now, pairs_of}
+use Rattle.hard_items.specs.declared.code.HardProgram.{HardProgram}
+use Rattle.hard_items.specs.Run.{Spot, items, first_spot, item_run, step_from}
 use Rattle.frame_plan.specs.Frames.{global_cells, cells}
 use Rattle.double_law.specs.Program.{IsDoubled}
 use Rattle.double_law.specs.Runs.{end_of, blocks, blocks_seen, says, line_says, step_says}
 use Rattle.double_law.proofs.Doubled.{Pairs}
 use Rattle.double_law.proofs.Leading.{Good}
-use Rattle.double_law.proofs.Relation.{Flow, Waits, Waiter, Related, sum_cons}
+use Rattle.hard_words.proofs.Sums.{sum_cons}
+use Rattle.double_law.proofs.Relation.{Flow, Waits, Waiter, Related}
 use Rattle.double_law.proofs.Stages.{R, StageOf, Setting, stage_behind, line_is}
 use Rattle.double_law.proofs.InBlock.{step_stage}
 use Rattle.double_law.proofs.Ends.{Wired, end_stage}
@@ -193,11 +194,11 @@ module _ (mid : Mid) (places : List Places) (p : HardProgram) (input : List ℕ)
   same_run =
       let s : SameObserved (watch (items p) (first_spot p input)) (watch (blocks mid) (first_state mid input)) = both.0 in
       record {
-        no_more = λ n. subst (λ (x : Seen End). Rattle.hard_words.specs.Observed.Prefix (item_run p input n).output x.output) (seen_is mid input n) (s.no_more n);
+        no_more = λ n. subst (λ (x : Seen End). Rattle.hard_runs.specs.Observed.Prefix (item_run p input n).output x.output) (seen_is mid input n) (s.no_more n);
         ends = λ n e h. let x : ((watch (blocks mid) (first_state mid input) n).end ≡ Some e) × ((watch (blocks mid) (first_state mid input) n).output ≡ (item_run p input n).output) = s.ends n e h in
             (ap (λ (y : Seen End). y.end) (sym (seen_is mid input n)) ∙ x.0, ap (λ (y : Seen End). y.output) (sym (seen_is mid input n)) ∙ x.1);
-        comes = λ n. let x : (m : ℕ) × Rattle.hard_words.specs.Observed.Prefix (watch (blocks mid) (first_state mid input) n).output (item_run p input m).output = s.comes n in
-            (x.0, subst (λ (y : Seen End). Rattle.hard_words.specs.Observed.Prefix y.output (item_run p input x.0).output) (seen_is mid input n) x.1);
+        comes = λ n. let x : (m : ℕ) × Rattle.hard_runs.specs.Observed.Prefix (watch (blocks mid) (first_state mid input) n).output (item_run p input m).output = s.comes n in
+            (x.0, subst (λ (y : Seen End). Rattle.hard_runs.specs.Observed.Prefix y.output (item_run p input x.0).output) (seen_is mid input n) x.1);
         finishes = λ n e h. let x : (m : ℕ) × ((item_run p input m).end ≡ Some e) × ((item_run p input m).output ≡ (watch (blocks mid) (first_state mid input) n).output) = s.finishes n e (ap (λ (y : Seen End). y.end) (seen_is mid input n) ∙ h) in
             (x.0, x.1, x.2 ∙ ap (λ (y : Seen End). y.output) (seen_is mid input n));
       }

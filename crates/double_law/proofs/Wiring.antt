@@ -4,30 +4,31 @@ use Rattle.std.specs.Prelude.{Option, Some, None, ◌⊎◌, slice_get, Contains
 use Rattle.std.proofs.lemmas.Option.{slice_get_within, get_or_from_slice_get, slice_get-get_or}
 use Rattle.std.proofs.lemmas.List.{get_or_append_left}
 use Rattle.mips_isa.specs.declared.instr.Instr.TheVariants as mips
-use Rattle.mid_code.specs.declared.code.MidEnd.{MidEnd}
-use Rattle.mid_code.specs.declared.code.MidEnd.TheVariants.{Jump, Branch, Call, Return}
-use Rattle.mid_code.specs.declared.code.MidBlock.{MidBlock}
-use Rattle.mid_code.specs.declared.code.MidFunction.{MidFunction}
-use Rattle.mid_code.specs.declared.code.Mid.{Mid}
-use Rattle.mid_code.specs.declared.places.Places.{Places}
-use Rattle.mid_code.specs.Liveness.{PlacesFit}
-use Rattle.mid_code.specs.Valid.{ValidFunction, Valid, IsTarget, IsBehind, target, falls_on, is_call}
-use Rattle.hard_code.specs.declared.code.Class.TheVariants as class
-use Rattle.hard_code.specs.declared.code.Fix.TheVariants as fix
-use Rattle.hard_code.specs.declared.code.Item.{Item}
-use Rattle.hard_code.specs.declared.code.HardBlock.{HardBlock}
-use Rattle.hard_code.specs.declared.code.HardProgram.{HardProgram}
-use Rattle.hard_code.specs.Forms.{going}
-use Rattle.hard_code.specs.Streams.{nop, plain}
-use Rattle.hard_code.specs.Run.{items_of, block_items}
-use Rattle.hard_code.specs.Ways.{Holds, CallsFunction, IsOfFunction, MayFollow, returned}
+use Rattle.mid_blocks.specs.declared.code.MidEnd.{MidEnd}
+use Rattle.mid_blocks.specs.declared.code.MidEnd.TheVariants.{Jump, Branch, Call, Return}
+use Rattle.mid_blocks.specs.declared.code.MidBlock.{MidBlock}
+use Rattle.mid_blocks.specs.declared.code.MidFunction.{MidFunction}
+use Rattle.mid_blocks.specs.declared.code.Mid.{Mid}
+use Rattle.mid_blocks.specs.declared.places.Places.{Places}
+use Rattle.mid_blocks.specs.Liveness.{PlacesFit}
+use Rattle.mid_blocks.specs.Valid.{ValidFunction, Valid, IsTarget, IsBehind, target, falls_on, is_call}
+use Rattle.hard_items.specs.declared.code.Class.TheVariants as class
+use Rattle.hard_items.specs.declared.code.Fix.TheVariants as fix
+use Rattle.hard_items.specs.declared.code.Item.{Item}
+use Rattle.hard_items.specs.declared.code.HardBlock.{HardBlock}
+use Rattle.hard_items.specs.declared.code.HardProgram.{HardProgram}
+use Rattle.hard_items.specs.Forms.{going}
+use Rattle.hard_items.specs.Streams.{nop, plain}
+use Rattle.hard_items.specs.Run.{items_of, block_items}
+use Rattle.hard_items.specs.Ways.{Holds, CallsFunction, IsOfFunction, MayFollow, returned}
 use Rattle.double_law.specs.declared.roles.Role.TheVariants.{Stack, Link}
 use Rattle.double_law.specs.Roles.{reg_in, both, load}
 use Rattle.double_law.specs.Emitted.{step_items, end_items, argument_items, call_items, returned_items}
 use Rattle.frame_plan.specs.Frames.{cell_address, global_cell, global_length, cells}
 use Rattle.double_law.specs.Program.{first_block, start_items, body_items, behind_block, behind_end, IsDoubled}
 use Rattle.double_law.specs.Law.{AllFit}
-use Rattle.double_law.proofs.Relation.{EndAt, sum_cons}
+use Rattle.hard_words.proofs.Sums.{sum_cons}
+use Rattle.double_law.proofs.Relation.{EndAt}
 use Rattle.double_law.proofs.Ends.{BlockThere, Wired, end_some}
 use Rattle.double_law.proofs.Stages.{back_nil}
 

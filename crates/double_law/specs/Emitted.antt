@@ -3,20 +3,20 @@ use Rattle.std.specs.Prelude.{ℕ, ◌+◌, ◌-◌, ◌*◌, ◌/◌, ◌%◌, 
 use Rattle.std.specs.Prelude.{length, map, sum, take, Option, Some, None, slice_get, slice_index_or}
 use Rattle.mips_isa.specs.declared.instr.Instr.{Instr}
 use Rattle.mips_isa.specs.declared.instr.Instr.TheVariants as mips
-use Rattle.hard_code.specs.declared.code.Class.TheVariants as class
-use Rattle.hard_code.specs.declared.code.Fix.TheVariants as fix
-use Rattle.hard_code.specs.declared.code.Item.{Item}
-use Rattle.hard_code.specs.Streams.{nop, plain}
-use Rattle.hard_code.specs.Forms.{going}
-use Rattle.mid_code.specs.declared.code.MidOp.{MidOp}
-use Rattle.mid_code.specs.declared.code.MidOp.TheVariants.{Add, Sub, Mul, Div, DivU, Rem, RemU, Shl, Shr, Sar, And, Or, Xor, Lt, LtU, Eq, Ne}
-use Rattle.mid_code.specs.declared.code.MidStep.{MidStep}
-use Rattle.mid_code.specs.declared.code.MidStep.TheVariants.{Constant, Copy, Operate, Guard, Load, Store, Input, Output, Deep}
-use Rattle.mid_code.specs.declared.code.MidEnd.{MidEnd}
-use Rattle.mid_code.specs.declared.code.MidEnd.TheVariants.{Jump, Branch, Call, Return}
-use Rattle.mid_code.specs.declared.places.Place.{Place}
-use Rattle.mid_code.specs.declared.places.Place.TheVariants.{Pair, Slot}
-use Rattle.mid_code.specs.declared.places.Places.{Places}
+use Rattle.hard_items.specs.declared.code.Class.TheVariants as class
+use Rattle.hard_items.specs.declared.code.Fix.TheVariants as fix
+use Rattle.hard_items.specs.declared.code.Item.{Item}
+use Rattle.hard_items.specs.Streams.{nop, plain}
+use Rattle.hard_items.specs.Forms.{going}
+use Rattle.mid_blocks.specs.declared.code.MidOp.{MidOp}
+use Rattle.mid_blocks.specs.declared.code.MidOp.TheVariants.{Add, Sub, Mul, Div, DivU, Rem, RemU, Shl, Shr, Sar, And, Or, Xor, Lt, LtU, Eq, Ne}
+use Rattle.mid_blocks.specs.declared.code.MidStep.{MidStep}
+use Rattle.mid_blocks.specs.declared.code.MidStep.TheVariants.{Constant, Copy, Operate, Guard, Load, Store, Input, Output, Deep}
+use Rattle.mid_blocks.specs.declared.code.MidEnd.{MidEnd}
+use Rattle.mid_blocks.specs.declared.code.MidEnd.TheVariants.{Jump, Branch, Call, Return}
+use Rattle.mid_blocks.specs.declared.places.Place.{Place}
+use Rattle.mid_blocks.specs.declared.places.Place.TheVariants.{Pair, Slot}
+use Rattle.mid_blocks.specs.declared.places.Places.{Places}
 use Rattle.double_law.specs.declared.roles.Stream.TheVariants.{First, Second}
 use Rattle.double_law.specs.declared.roles.Role.{Role}
 use Rattle.double_law.specs.declared.roles.Role.TheVariants.{Value, Stack, Link}

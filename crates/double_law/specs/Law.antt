@@ -1,28 +1,23 @@
 -- What a doubled program does.
 use Rattle.std.specs.Prelude.{◌≡◌, ◌<◌, ℕ, ◌^◌, List, Some, length, slice_get, All}
-use Rattle.hard_words.specs.Observed.{SameObserved}
+use Rattle.hard_runs.specs.Observed.{SameObserved}
 use Rattle.hard_words.specs.Words.{AreWords}
-use Rattle.hard_words.specs.Stepping.{Always}
-use Rattle.mid_code.specs.declared.code.MidStep.TheVariants.{Constant}
-use Rattle.mid_code.specs.declared.code.MidBlock.{MidBlock}
-use Rattle.mid_code.specs.declared.code.MidFunction.{MidFunction}
-use Rattle.mid_code.specs.declared.code.Mid.{Mid}
-use Rattle.mid_code.specs.declared.places.Places.{Places}
-use Rattle.mid_code.specs.Liveness.{PlacesFit}
-use Rattle.mid_code.specs.Valid.{Valid}
-use Rattle.mid_code.specs.Bounds.{Shallow, Proper}
-use Rattle.hard_code.specs.declared.code.HardProgram.{HardProgram}
-use Rattle.hard_code.specs.Run.{items, items_of, first_spot, item_run}
-use Rattle.hard_code.specs.Forms.{AreBare}
-use Rattle.hard_code.specs.Rules.{LawfulAt, AgreesAt, NeverReports}
+use Rattle.hard_runs.specs.Stepping.{Always}
+use Rattle.mid_blocks.specs.declared.code.MidStep.TheVariants.{Constant}
+use Rattle.mid_blocks.specs.declared.code.MidBlock.{MidBlock}
+use Rattle.mid_blocks.specs.declared.code.MidFunction.{MidFunction}
+use Rattle.mid_blocks.specs.declared.code.Mid.{Mid}
+use Rattle.mid_blocks.specs.declared.places.Places.{Places}
+use Rattle.mid_blocks.specs.Liveness.{PlacesFit}
+use Rattle.mid_blocks.specs.Valid.{Valid}
+use Rattle.mid_blocks.specs.Bounds.{Shallow, Proper}
+use Rattle.hard_items.specs.declared.code.HardProgram.{HardProgram}
+use Rattle.hard_items.specs.Run.{items, items_of, first_spot, item_run}
+use Rattle.hard_items.specs.Forms.{AreBare}
+use Rattle.hard_items.specs.Rules.{LawfulAt, AgreesAt, NeverReports}
 use Rattle.double_law.specs.Program.{IsDoubled}
 use Rattle.double_law.specs.Runs.{blocks_seen}
-
--- The words of a program in blocks are words.
-pub record HasWords (mid : Mid) : Type 0 where
-  pub constants : (n b k to w : ℕ) (f : MidFunction) (block : MidBlock) → slice_get mid.functions n ≡ Some f →
-      slice_get f.blocks b ≡ Some block → slice_get block.steps k ≡ Some (Constant to w) → w < 2 ^ 32
-  pub globals : All AreWords mid.globals
+use Rattle.mid_blocks.specs.Words.{HasWords}
 
 -- The places of each function are there and fit.
 abbrev pub AllFit : Mid → List Places → Type 0

@@ -3,21 +3,22 @@ use Rattle.std.proofs.Common.{◌≡◌, ◌≤◌, ◌<◌, ◌+◌, ◌*◌, �
 use Rattle.std.specs.Prelude.{Option, Some, None, slice_get}
 use Rattle.std.proofs.lemmas.List.Sums.{sum_by-cons}
 use Rattle.std.proofs.lemmas.List.FromFn.{length-map-range_with_len, get_or-map-range_with_len}
-use Rattle.hard_code.specs.declared.code.HardBlock.{HardBlock}
-use Rattle.hard_code.specs.declared.code.HardProgram.{HardProgram}
-use Rattle.hard_code.specs.Run.{block_items}
-use Rattle.mid_code.specs.declared.code.MidBlock.{MidBlock}
-use Rattle.mid_code.specs.declared.code.MidFunction.{MidFunction}
-use Rattle.mid_code.specs.declared.code.Mid.{Mid}
-use Rattle.mid_code.specs.declared.places.Places.{Places}
-use Rattle.mid_code.specs.Liveness.{PlacesFit}
-use Rattle.mid_code.specs.Valid.{Valid}
-use Rattle.mid_code.specs.Bounds.{Shallow, Proper}
-use Rattle.hard_code.specs.Rules.{Twin}
-use Rattle.double_forms.specs.Laws.{DoubledTwin, CountsFit, DoubledCounts}
-use Rattle.double_law.specs.Law.{AllFit, HasWords, Doubles, RunsAsBlocks, DoubledRuns}
+use Rattle.hard_items.specs.declared.code.HardBlock.{HardBlock}
+use Rattle.hard_items.specs.declared.code.HardProgram.{HardProgram}
+use Rattle.hard_items.specs.Run.{block_items}
+use Rattle.mid_blocks.specs.declared.code.MidBlock.{MidBlock}
+use Rattle.mid_blocks.specs.declared.code.MidFunction.{MidFunction}
+use Rattle.mid_blocks.specs.declared.code.Mid.{Mid}
+use Rattle.mid_blocks.specs.declared.places.Places.{Places}
+use Rattle.mid_blocks.specs.Liveness.{PlacesFit}
+use Rattle.mid_blocks.specs.Valid.{Valid}
+use Rattle.mid_blocks.specs.Bounds.{Shallow, Proper}
+use Rattle.hard_items.specs.Rules.{Twin}
+use Rattle.double_law.specs.Laws.{DoubledTwin, CountsFit, DoubledCounts}
+use Rattle.mid_blocks.specs.Words.{HasWords}
+use Rattle.double_law.specs.Law.{AllFit, Doubles, RunsAsBlocks, DoubledRuns}
 use Rattle.double_law.specs.Program.{first_block, IsDoubled}
-use Rattle.double_forms.specs.Ways.{NamesWays}
+use Rattle.double_law.specs.Ways.{NamesWays}
 use Rattle.duplicate_pass.specs.Doubled.{doubled_block, function_blocks, program_blocks, first_one, exit_one, doubled_program}
 
 abbrev blocks_in : MidFunction → ℕ

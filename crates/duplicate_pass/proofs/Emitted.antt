@@ -4,16 +4,16 @@ use Rattle.std.specs.Prelude.{Result, Ok, Err, None, IfOk, All, get_or, slice_in
 use Rattle.std.proofs.lemmas.Option.{slice_get-get_or, get_or_from_slice_get}
 use Rattle.std.proofs.lemmas.List.Concat.{flat_map-cons}
 use Rattle.std.proofs.lemmas.List.Sums.{sum_by-cons}
-use Rattle.hard_code.specs.declared.code.Item.{Item}
-use Rattle.mid_code.specs.declared.code.MidEnd.{MidEnd}
-use Rattle.mid_code.specs.declared.code.MidEnd.TheVariants.{Jump, Branch, Call, Return}
-use Rattle.mid_code.specs.declared.code.MidBlock.{MidBlock}
-use Rattle.mid_code.specs.declared.code.MidFunction.{MidFunction}
-use Rattle.mid_code.specs.declared.code.Mid.{Mid}
-use Rattle.mid_code.specs.declared.places.Places.{Places}
+use Rattle.hard_items.specs.declared.code.Item.{Item}
+use Rattle.mid_blocks.specs.declared.code.MidEnd.{MidEnd}
+use Rattle.mid_blocks.specs.declared.code.MidEnd.TheVariants.{Jump, Branch, Call, Return}
+use Rattle.mid_blocks.specs.declared.code.MidBlock.{MidBlock}
+use Rattle.mid_blocks.specs.declared.code.MidFunction.{MidFunction}
+use Rattle.mid_blocks.specs.declared.code.Mid.{Mid}
+use Rattle.mid_blocks.specs.declared.places.Places.{Places}
 use Rattle.double_law.specs.Emitted.{place_of, parameter_load, parameter_items}
 use Rattle.double_law.specs.Program.{first_block}
-use Rattle.double_forms.specs.Ways.{calls, behind_calls, all_blocks, in_order, successors}
+use Rattle.double_law.specs.Ways.{calls, behind_calls, all_blocks, in_order, successors}
 use Rattle.duplicate_pass.specs.Emits.{CallsBelow}
 use Rattle.duplicate_pass.specs.Ready.{AreTables, successors_by, block_at}
 

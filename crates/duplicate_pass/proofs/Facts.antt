@@ -3,25 +3,25 @@ use Rattle.std.proofs.Common.{◌≡◌, ◌≤◌, ◌<◌, ◌+◌, ◌-◌, �
 use Rattle.std.specs.Prelude.{Option, Some, None, All, Any, slice_get, slice_index, slice_index_or, get_or, flat_map, nat_lt, if◌then◌else◌, ◌==◌}
 use Rattle.std.proofs.lemmas.List.Sums.{sum_by-cons}
 use Rattle.std.proofs.lemmas.Option.{slice_get-get_or, slice_get_within, get_or_from_slice_get, slice_get_cases}
-use Rattle.mid_code.specs.declared.places.Place.{Place}
-use Rattle.mid_code.specs.declared.places.Place.TheVariants.{Pair, Slot}
-use Rattle.mid_code.specs.declared.places.Places.{Places}
-use Rattle.mid_code.specs.declared.code.MidStep.{MidStep}
-use Rattle.mid_code.specs.declared.code.MidEnd.{MidEnd}
-use Rattle.mid_code.specs.declared.code.MidEnd.TheVariants.{Jump, Branch, Call, Return}
-use Rattle.mid_code.specs.declared.code.MidBlock.{MidBlock}
-use Rattle.mid_code.specs.declared.code.MidFunction.{MidFunction}
-use Rattle.mid_code.specs.declared.code.Mid.{Mid}
-use Rattle.mid_code.specs.Lines.{Line, Step, End as EndLine, block_lines, lines}
-use Rattle.mid_code.specs.Valid.{ValidFunction, Valid, step_global, target}
-use Rattle.mid_code.specs.Liveness.{PlacesFit, own_slot}
+use Rattle.mid_blocks.specs.declared.places.Place.{Place}
+use Rattle.mid_blocks.specs.declared.places.Place.TheVariants.{Pair, Slot}
+use Rattle.mid_blocks.specs.declared.places.Places.{Places}
+use Rattle.mid_blocks.specs.declared.code.MidStep.{MidStep}
+use Rattle.mid_blocks.specs.declared.code.MidEnd.{MidEnd}
+use Rattle.mid_blocks.specs.declared.code.MidEnd.TheVariants.{Jump, Branch, Call, Return}
+use Rattle.mid_blocks.specs.declared.code.MidBlock.{MidBlock}
+use Rattle.mid_blocks.specs.declared.code.MidFunction.{MidFunction}
+use Rattle.mid_blocks.specs.declared.code.Mid.{Mid}
+use Rattle.mid_blocks.specs.Lines.{Line, Step, End as EndLine, block_lines, lines}
+use Rattle.mid_blocks.specs.Valid.{ValidFunction, Valid, step_global, target}
+use Rattle.mid_blocks.specs.Liveness.{PlacesFit, own_slot}
 use Rattle.frame_plan.specs.Frames.{addresses, cell_address, global_cell, global_length, IsPlan}
 use Rattle.frame_plan.specs.declared.numbers.Frames.{Frames}
 use Rattle.double_law.specs.Emitted.{place_of}
 use Rattle.double_law.specs.Law.{AllFit}
 use Rattle.double_law.specs.Program.{first_block}
 use Rattle.duplicate_pass.specs.Emits.{IsSmall, AreSmall, GlobalsKnown, HasAddress, IsNamed, EndFits, CallsBelow, firsts_from}
-use Rattle.double_forms.specs.Ways.{behind_calls, all_blocks}
+use Rattle.double_law.specs.Ways.{behind_calls, all_blocks}
 use Rattle.duplicate_pass.specs.Ready.{AreTables, BlockReady, FunctionReady, AllReady}
 
 -- ---- lists

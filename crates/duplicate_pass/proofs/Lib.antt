@@ -1,5 +1,5 @@
-mod Absent
-mod Facts
+pub mod Absent
+pub mod Facts
 pub mod Doubled
-mod Emitted
-mod Parts
+pub mod Emitted
+pub mod Parts

@@ -1,22 +1,22 @@
 -- A block as it is put, and a program as it is put together.
 use Rattle.std.proofs.Common.{◌≡◌, ◌<◌, ◌+◌, ◌*◌, ℕ, arith, ap, sym, ◌∙◌, subst, List, [], ◌∷◌, ◌++◌, length, map, flat_map}
 use Rattle.std.specs.Prelude.{None, get_or}
-use Rattle.mid_code.specs.declared.code.MidEnd.TheVariants.{Return}
+use Rattle.mid_blocks.specs.declared.code.MidEnd.TheVariants.{Return}
 use Rattle.duplicate_pass.specs.Emits.{CallsBelow}
 use Rattle.std.specs.List.{range_with_len}
 use Rattle.std.proofs.lemmas.List.FromFn.{length-map-range_with_len, get_or-map-range_with_len}
-use Rattle.hard_code.specs.declared.code.HardBlock.{HardBlock}
-use Rattle.hard_code.specs.declared.code.HardProgram.{HardProgram}
-use Rattle.hard_code.specs.declared.code.Item.{Item}
-use Rattle.mid_code.specs.declared.code.MidStep.{MidStep}
-use Rattle.mid_code.specs.declared.code.MidBlock.{MidBlock}
-use Rattle.mid_code.specs.declared.code.MidFunction.{MidFunction}
-use Rattle.mid_code.specs.declared.code.Mid.{Mid}
-use Rattle.mid_code.specs.declared.places.Places.{Places}
+use Rattle.hard_items.specs.declared.code.HardBlock.{HardBlock}
+use Rattle.hard_items.specs.declared.code.HardProgram.{HardProgram}
+use Rattle.hard_items.specs.declared.code.Item.{Item}
+use Rattle.mid_blocks.specs.declared.code.MidStep.{MidStep}
+use Rattle.mid_blocks.specs.declared.code.MidBlock.{MidBlock}
+use Rattle.mid_blocks.specs.declared.code.MidFunction.{MidFunction}
+use Rattle.mid_blocks.specs.declared.code.Mid.{Mid}
+use Rattle.mid_blocks.specs.declared.places.Places.{Places}
 use Rattle.frame_plan.specs.Frames.{cell_address, global_cell, global_length, cells}
 use Rattle.double_law.specs.Emitted.{step_items, end_items}
 use Rattle.double_law.specs.Program.{first_block, start_items, doubled}
-use Rattle.double_forms.specs.Ways.{successors}
+use Rattle.double_law.specs.Ways.{successors}
 use Rattle.duplicate_pass.specs.Doubled.{doubled_block, program_blocks, first_one, exit_one, doubled_program}
 use Rattle.duplicate_pass.specs.Ready.{AreTables, successors_by, FunctionReady, block_at}
 use Rattle.duplicate_pass.proofs.Emitted.{block_here, three_put, by_tables, same_default, same_lists}

@@ -1,14 +1,14 @@
 -- The whole program that a program in blocks becomes: its blocks with their successors, in order.
 use Rattle.std.specs.Prelude.{ℕ, ◌+◌, ◌*◌, List, [], ◌∷◌, ◌++◌, flat_map, length, map}
 use Rattle.std.specs.List.{range_with_len}
-use Rattle.hard_code.specs.declared.code.HardBlock.{HardBlock}
-use Rattle.hard_code.specs.declared.code.HardProgram.{HardProgram}
-use Rattle.mid_code.specs.declared.code.MidBlock.{MidBlock}
-use Rattle.mid_code.specs.declared.code.MidFunction.{MidFunction}
-use Rattle.mid_code.specs.declared.code.Mid.{Mid}
-use Rattle.mid_code.specs.declared.places.Places.{Places}
+use Rattle.hard_items.specs.declared.code.HardBlock.{HardBlock}
+use Rattle.hard_items.specs.declared.code.HardProgram.{HardProgram}
+use Rattle.mid_blocks.specs.declared.code.MidBlock.{MidBlock}
+use Rattle.mid_blocks.specs.declared.code.MidFunction.{MidFunction}
+use Rattle.mid_blocks.specs.declared.code.Mid.{Mid}
+use Rattle.mid_blocks.specs.declared.places.Places.{Places}
 use Rattle.frame_plan.specs.Frames.{cells}
-use Rattle.double_forms.specs.Ways.{successors}
+use Rattle.double_law.specs.Ways.{successors}
 use Rattle.double_law.specs.Program.{first_block, start_items, body_items, first_items, exit_items, doubled}
 
 -- ---- the blocks

@@ -1,13 +1,13 @@
 -- What emitting a program asks of its parts, and what the tables over it are. These definitions serve private contracts alone.
 use Rattle.std.specs.Prelude.{◌≡◌, ◌≤◌, ◌<◌, ℕ, ◌+◌, ◌-◌, ◌^◌, List, [], ◌∷◌, length, All, Some, None, slice_get, slice_index, slice_index_or}
-use Rattle.mid_code.specs.declared.code.MidEnd.{MidEnd}
-use Rattle.mid_code.specs.declared.code.MidEnd.TheVariants.{Jump, Branch, Call, Return}
-use Rattle.mid_code.specs.declared.code.MidBlock.{MidBlock}
-use Rattle.mid_code.specs.declared.code.MidFunction.{MidFunction}
-use Rattle.mid_code.specs.declared.code.Mid.{Mid}
-use Rattle.mid_code.specs.declared.places.Places.{Places}
+use Rattle.mid_blocks.specs.declared.code.MidEnd.{MidEnd}
+use Rattle.mid_blocks.specs.declared.code.MidEnd.TheVariants.{Jump, Branch, Call, Return}
+use Rattle.mid_blocks.specs.declared.code.MidBlock.{MidBlock}
+use Rattle.mid_blocks.specs.declared.code.MidFunction.{MidFunction}
+use Rattle.mid_blocks.specs.declared.code.Mid.{Mid}
+use Rattle.mid_blocks.specs.declared.places.Places.{Places}
 use Rattle.double_law.specs.Program.{first_block}
-use Rattle.double_forms.specs.Ways.{in_order, returns_to}
+use Rattle.double_law.specs.Ways.{in_order, returns_to}
 use Rattle.duplicate_pass.specs.Emits.{AreSmall, IsNamed, EndFits, CallsBelow}
 
 -- ---- tables

@@ -1,13 +1,13 @@
 //! Items put behind others: one thing done in both streams.
 
 ghost use Rattle.std.specs.Prelude.{◌≡◌, ◌≤◌, ◌++◌, ◌∷◌, [], OnOk};
-ghost use Rattle.hard_code.specs.Streams.{nop, plain};
+ghost use Rattle.hard_items.specs.Streams.{nop, plain};
 ghost use Rattle.double_law.specs.Roles.{RoleFits, reg_in, both, move, load, store, test};
 ghost use Rattle.double_law.specs.Emitted.{constant, service_items, input_items};
 
 use double_law::{Role, Stream, register};
-use hard_code::{Class, Fix, Item, Sequence};
-use hard_words::OutOfMemory;
+use hard_items::{Class, Fix, Item};
+use hard_words::{OutOfMemory, Sequence};
 use mips_isa::Instr;
 
 /// Adds an item without a field.

@@ -4,7 +4,7 @@ ghost use Rattle.std.specs.Prelude.{◌≡◌, ◌≤◌, ◌<◌, ◌+◌, ◌^
 ghost use Rattle.frame_plan.specs.Frames.{cell_address, global_cell, global_length};
 ghost use Rattle.double_law.specs.Emitted.{step_items};
 ghost use Rattle.double_law.specs.Program.{first_block};
-ghost use Rattle.double_forms.specs.Ways.{in_order};
+ghost use Rattle.double_law.specs.Ways.{in_order};
 ghost use Rattle.duplicate_pass.specs.Doubled.{doubled_block, function_blocks, program_blocks};
 ghost use Rattle.duplicate_pass.specs.Emits.{AreSmall, GlobalsKnown, IsNamed};
 ghost use Rattle.duplicate_pass.specs.Ready.{AreTables, successors_by, EndReady, FunctionReady, AllReady, block_at};
@@ -13,9 +13,9 @@ use crate::ends::put_end;
 use crate::starts::put_start;
 use crate::steps::put_step;
 use crate::tables::Tables;
-use hard_code::{HardBlock, Item, Sequence};
-use hard_words::{OutOfMemory, Words};
-use mid_code::{Mid, MidEnd, MidFunction, MidStep, Places};
+use hard_items::{HardBlock, Item};
+use hard_words::{OutOfMemory, Sequence, Words};
+use mid_blocks::{Mid, MidEnd, MidFunction, MidStep, Places};
 use std::alloc::Global;
 
 /// A list of one number.

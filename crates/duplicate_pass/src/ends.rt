@@ -1,8 +1,8 @@
 //! What each end of a block becomes.
 
 ghost use Rattle.std.specs.Prelude.{◌≡◌, ◌≤◌, ◌<◌, ◌+◌, ◌-◌, ◌*◌, ◌^◌, ◌++◌, ◌∷◌, [], OnOk, length};
-ghost use Rattle.hard_code.specs.Streams.{nop, plain};
-ghost use Rattle.hard_code.specs.Forms.{going};
+ghost use Rattle.hard_items.specs.Streams.{nop, plain};
+ghost use Rattle.hard_items.specs.Forms.{going};
 ghost use Rattle.double_law.specs.Roles.{reg_in, store};
 ghost use Rattle.double_law.specs.Emitted as emitted;
 ghost use Rattle.duplicate_pass.specs.Emits.{IsSmall, AreSmall, EndFits, branch_on};
@@ -10,9 +10,9 @@ ghost use Rattle.duplicate_pass.specs.Emits.{IsSmall, AreSmall, EndFits, branch_
 use crate::basic::{pair, put, put_load, put_nop, put_store, put_sum, put_zero};
 use crate::places::{place_of, put_brought, put_fetched, source};
 use double_law::{Role, Stream};
-use hard_code::{Class, Fix, Item, Sequence};
-use hard_words::OutOfMemory;
-use mid_code::{MidEnd, Place, Places};
+use hard_items::{Class, Fix, Item};
+use hard_words::{OutOfMemory, Sequence};
+use mid_blocks::{MidEnd, Place, Places};
 use mips_isa::Instr;
 
 /// Adds an item with a field for the layout.

@@ -8,9 +8,9 @@ ghost use Rattle.duplicate_pass.specs.Emits.{IsSmall, three_of, product_of, move
 use crate::basic::{pair, put, put_both, put_test, put_upper};
 use crate::places::{put_fetched, source};
 use double_law::Role;
-use hard_code::{Class, Item, Sequence};
-use hard_words::OutOfMemory;
-use mid_code::{MidOp, Place};
+use hard_items::{Class, Item};
+use hard_words::{OutOfMemory, Sequence};
+use mid_blocks::{MidOp, Place};
 use mips_isa::Instr;
 
 /// The instruction of an operation that is no product, or that it begins with.

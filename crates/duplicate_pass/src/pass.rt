@@ -1,12 +1,13 @@
 //! The pass: the two first blocks, the functions, and the memory at the start.
 
 ghost use Rattle.std.specs.Prelude.{◌≡◌, ◌<◌, ◌++◌, [], ◌∷◌, IfOk, OnOk, flat_map, slice_index, length};
-ghost use Rattle.mid_code.specs.Valid.{Valid};
+ghost use Rattle.mid_blocks.specs.Valid.{Valid};
 ghost use Rattle.frame_plan.specs.Frames.{IsPlan, cell_address, cells};
-ghost use Rattle.mid_code.specs.Bounds.{Shallow, Proper};
-ghost use Rattle.hard_code.specs.Rules.{Twin};
-ghost use Rattle.double_law.specs.Law.{AllFit, HasWords, RunsAsBlocks};
-ghost use Rattle.double_forms.specs.Laws.{CountsFit};
+ghost use Rattle.mid_blocks.specs.Bounds.{Shallow, Proper};
+ghost use Rattle.hard_items.specs.Rules.{Twin};
+ghost use Rattle.mid_blocks.specs.Words.{HasWords};
+ghost use Rattle.double_law.specs.Law.{AllFit, RunsAsBlocks};
+ghost use Rattle.double_law.specs.Laws.{CountsFit};
 ghost use Rattle.double_law.specs.Program.{first_block, first_items, exit_items, doubled};
 ghost use Rattle.duplicate_pass.specs.Doubled.{doubled_program};
 ghost use Rattle.duplicate_pass.specs.Ready.{AreTables};
@@ -15,12 +16,11 @@ use crate::basic::{put, put_lower, put_service, put_upper};
 use crate::blocks::{one, put_functions};
 use crate::ends::put_call;
 use crate::tables::{Tables, first_blocks, return_lists};
-use double_forms::{doubled_counts, doubled_twin};
-use double_law::{Role, doubled_runs};
+use double_law::{Role, doubled_counts, doubled_runs, doubled_twin};
 use frame_plan::Frames;
-use hard_code::{Class, HardBlock, HardProgram, Item, Sequence};
-use hard_words::{OutOfMemory, Words};
-use mid_code::{Mid, Places};
+use hard_items::{Class, HardBlock, HardProgram, Item};
+use hard_words::{OutOfMemory, Sequence, Words};
+use mid_blocks::{Mid, Places};
 use mips_isa::Instr;
 use std::alloc::Global;
 

@@ -7,9 +7,9 @@ ghost use Rattle.duplicate_pass.specs.Emits.{IsSmall, IsSmallIf, AreSmall};
 
 use crate::basic::{put_load, put_move, put_store};
 use double_law::Role;
-use hard_code::{Item, Sequence};
-use hard_words::OutOfMemory;
-use mid_code::{Place, Places};
+use hard_items::Item;
+use hard_words::{OutOfMemory, Sequence};
+use mid_blocks::{Place, Places};
 
 /// The place of a variable.
 pub(crate) fn place_of(places: &Places, variable: u32) -> Place

@@ -8,9 +8,9 @@ ghost use Rattle.duplicate_pass.specs.Emits.{IsSmall, AreSmall};
 use crate::basic::{put_load, put_move, put_store, put_sum};
 use crate::places::{place_of, slot_offset};
 use double_law::Role;
-use hard_code::{Item, Sequence};
-use hard_words::OutOfMemory;
-use mid_code::{MidEnd, MidFunction, Place, Places};
+use hard_items::Item;
+use hard_words::{OutOfMemory, Sequence};
+use mid_blocks::{MidEnd, MidFunction, Place, Places};
 
 /// The parameter of a number comes to its pair, if it has one.
 fn put_parameter(

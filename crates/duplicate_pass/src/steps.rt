@@ -1,7 +1,7 @@
 //! What each step of a block becomes.
 
 ghost use Rattle.std.specs.Prelude.{◌≡◌, ◌≤◌, ◌<◌, ◌^◌, ◌++◌, OnOk, slice_index, length};
-ghost use Rattle.mid_code.specs.declared.code.MidStep.{MidStep};
+ghost use Rattle.mid_blocks.specs.declared.code.MidStep.{MidStep};
 ghost use Rattle.frame_plan.specs.Frames.{cell_address, global_cell, global_length};
 ghost use Rattle.double_law.specs.Roles.{RoleFits, reg_in, both, test};
 ghost use Rattle.double_law.specs.Emitted as emitted;
@@ -15,9 +15,9 @@ use crate::places::{
     optional_place, place_of, put_brought, put_fetched, put_kept, slot_offset, source, target,
 };
 use double_law::Role;
-use hard_code::{Item, Sequence};
-use hard_words::OutOfMemory;
-use mid_code::{Mid, MidOp, MidStep, Place, Places};
+use hard_items::Item;
+use hard_words::{OutOfMemory, Sequence};
+use mid_blocks::{Mid, MidOp, MidStep, Place, Places};
 use mips_isa::Instr;
 
 /// The upper half of an address for lui, where its lower half is an offset with sign.

@@ -1,11 +1,11 @@
 //! Tables over a program in blocks: the first block of each function, and the blocks to which each returns.
 
 ghost use Rattle.std.specs.Prelude.{◌≡◌, ◌≤◌, ◌<◌, ◌+◌, ◌-◌, ◌^◌, ◌++◌, [], ◌∷◌, ℕ, IfOk, OnOk, All, length, map, sum, vec_len, slice_index_or, slice_set, flat_map, replicate, if◌then◌else◌, ◌==◌};
-ghost use Rattle.double_forms.specs.Ways.{calls, behind_calls, all_blocks};
+ghost use Rattle.double_law.specs.Ways.{calls, behind_calls, all_blocks};
 ghost use Rattle.duplicate_pass.specs.Emits.{firsts_from, CallsBelow};
 
 use hard_words::{OutOfMemory, Words};
-use mid_code::{MidBlock, MidEnd, MidFunction};
+use mid_blocks::{MidBlock, MidEnd, MidFunction};
 use std::alloc::Global;
 
 /// The number of the first block of each function; two blocks stand before them all.

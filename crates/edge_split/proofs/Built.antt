@@ -3,18 +3,18 @@ use Rattle.std.proofs.Common.{◌≡◌, ◌≤◌, ◌<◌, ℕ, zero, suc, ◌
 use Rattle.std.specs.Prelude.{Option, Some, None, ◌==◌, slice_get, slice_index, All}
 use Rattle.std.specs.List.{range_with_len}
 use Rattle.std.proofs.lemmas.Option.{slice_get_read}
-use Rattle.hard_code.specs.declared.code.Fix.{Fix}
-use Rattle.hard_code.specs.declared.code.Fix.TheVariants.{Plain, Block, Function, ReturnHigh, ReturnLow}
-use Rattle.hard_code.specs.declared.code.Item.{Item}
-use Rattle.hard_code.specs.declared.code.HardBlock.{HardBlock}
-use Rattle.hard_code.specs.declared.code.HardProgram.{HardProgram}
-use Rattle.hard_code.specs.Run.{items_of, block_items}
-use Rattle.hard_code.specs.WellFormed.{WellFormed, NamesThere}
-use Rattle.hard_code.specs.Counts.{is_conditional}
-use Rattle.hard_code.specs.Forms.{Jump, close_items}
+use Rattle.hard_items.specs.declared.code.Fix.{Fix}
+use Rattle.hard_items.specs.declared.code.Fix.TheVariants.{Plain, Block, Function, ReturnHigh, ReturnLow}
+use Rattle.hard_items.specs.declared.code.Item.{Item}
+use Rattle.hard_items.specs.declared.code.HardBlock.{HardBlock}
+use Rattle.hard_items.specs.declared.code.HardProgram.{HardProgram}
+use Rattle.hard_items.specs.Run.{items_of, block_items}
+use Rattle.hard_items.specs.WellFormed.{WellFormed, NamesThere}
+use Rattle.hard_items.specs.Counts.{is_conditional}
+use Rattle.hard_items.specs.Forms.{Jump, close_items}
 use Rattle.block_relays.specs.Renumber.{return_place}
 use Rattle.block_relays.specs.Relays.{goals, goal_place, turned, put_as, put_item}
-use Rattle.code_layout.specs.Widen.{goal_of, far_goal, branch_goal, first_of, first_goal}
+use Rattle.far_branches.specs.Widen.{goal_of, far_goal, branch_goal, first_of, first_goal}
 use Rattle.layout_law.proofs.Agree.{follower_there}
 use Rattle.edge_split.specs.declared.plan.Plan as declared
 use Rattle.edge_split.specs.declared.plan.Plan.TheVariants as made

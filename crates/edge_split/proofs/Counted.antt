@@ -3,11 +3,11 @@ use Rattle.std.proofs.Common.{◌≡◌, ◌≢◌, ◌<◌, ℕ, zero, suc, ◌
 use Rattle.std.specs.Prelude.{Option, Some, None, ◌⊎◌, ◌==◌, ◌&&◌, ◌||◌, nat_le, nat_lt, min, slice_get, slice_set, All}
 use Rattle.std.specs.List.{range_with_len}
 use Rattle.std.proofs.lemmas.List.{get_or-set_same, get_or-set_other}
-use Rattle.hard_code.specs.declared.code.Item.{Item}
-use Rattle.hard_code.specs.declared.code.HardBlock.{HardBlock}
-use Rattle.hard_code.specs.declared.code.HardProgram.{HardProgram}
-use Rattle.hard_code.specs.Run.{block_items}
-use Rattle.code_layout.specs.Widen.{first_goal}
+use Rattle.hard_items.specs.declared.code.Item.{Item}
+use Rattle.hard_items.specs.declared.code.HardBlock.{HardBlock}
+use Rattle.hard_items.specs.declared.code.HardProgram.{HardProgram}
+use Rattle.hard_items.specs.Run.{block_items}
+use Rattle.far_branches.specs.Widen.{first_goal}
 use Rattle.edge_split.specs.Split.{Plan, times, arrivals, joins, returns, calls, returns_two, is_returned, branch_plan, other_plan, plan_by, plan_of}
 use Rattle.edge_split.specs.Built.{one_more, counted, all_counted, joined, marked, all_marked, goal_plan, all_planned, plan_list}
 

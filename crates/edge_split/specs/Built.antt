@@ -1,12 +1,12 @@
 -- The split form by lists, as it is built. It serves private contracts alone.
 use Rattle.std.specs.Prelude.{◌<◌, ℕ, ◌+◌, Bool, true, false, ◌&&◌, nat_le, if◌then◌else◌, min, Option, Some, None, List, [], ◌∷◌, length, map, get_or, slice_set, All}
 use Rattle.std.specs.List.{range_with_len}
-use Rattle.hard_code.specs.declared.code.Fix.{Fix}
-use Rattle.hard_code.specs.declared.code.Fix.TheVariants.{Block}
-use Rattle.hard_code.specs.declared.code.Item.{Item}
-use Rattle.hard_code.specs.declared.code.HardBlock.{HardBlock}
-use Rattle.hard_code.specs.declared.code.HardProgram.{HardProgram}
-use Rattle.code_layout.specs.Widen.{first_goal}
+use Rattle.hard_items.specs.declared.code.Fix.{Fix}
+use Rattle.hard_items.specs.declared.code.Fix.TheVariants.{Block}
+use Rattle.hard_items.specs.declared.code.Item.{Item}
+use Rattle.hard_items.specs.declared.code.HardBlock.{HardBlock}
+use Rattle.hard_items.specs.declared.code.HardProgram.{HardProgram}
+use Rattle.far_branches.specs.Widen.{first_goal}
 use Rattle.edge_split.specs.declared.plan.Plan as declared
 use Rattle.edge_split.specs.declared.plan.Plan.TheVariants as made
 use Rattle.edge_split.specs.Split.{Plan, Keep, Returns, Calls, Falls, Turns, Forks, branch_plan, other_plan, plan_of, returns, calls, returns_two}

@@ -4,7 +4,7 @@ ghost use Rattle.std.specs.Prelude.{◌≡◌, ℕ, ◌+◌, ◌<◌, ◌^◌, �
 ghost use Rattle.edge_split.specs.Split as Split;
 ghost use Rattle.edge_split.specs.Built.{one_more, counted, all_counted, joined, marked, all_marked};
 
-use hard_code::{HardBlock, Item};
+use hard_items::{HardBlock, Item};
 use mips_isa::Instr;
 use std::alloc::{AllocError, Global};
 

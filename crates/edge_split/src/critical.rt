@@ -1,7 +1,7 @@
 //! The splitting of critical edges, as a whole.
 
 ghost use Rattle.std.specs.Prelude.{◌≡◌, ℕ, ◌+◌, ◌^◌, ◌<◌, ◌≤◌, IfOk, All, map, length, slice_index, get_or};
-ghost use Rattle.hard_code.specs.WellFormed.{WellFormed};
+ghost use Rattle.hard_items.specs.WellFormed.{WellFormed};
 ghost use Rattle.edge_split.specs.declared.plan.Plan.TheVariants as made;
 ghost use Rattle.edge_split.specs.Split.{split_blocks, smoothed};
 ghost use Rattle.edge_split.specs.Built.{plan_as, plan_list, AllThere, GoalThere};
@@ -9,8 +9,8 @@ ghost use Rattle.edge_split.specs.Built.{plan_as, plan_list, AllThere, GoalThere
 use crate::counts::{counts_of, marks_of};
 use crate::place::{placed_blocks, put_block};
 use crate::plan::{Plan, places_of, plans_of};
-use hard_code::{HardBlock, HardProgram, Sequence};
-use hard_words::{OutOfMemory, Words};
+use hard_items::{HardBlock, HardProgram};
+use hard_words::{OutOfMemory, Sequence, Words};
 use std::alloc::{AllocError, Global};
 
 /// The plans of a program's blocks.

@@ -1,7 +1,7 @@
 //! Blocks in their places, and the blocks that only jump on.
 
 ghost use Rattle.std.specs.Prelude.{◌≡◌, [], ◌∷◌, ℕ, ◌+◌, ◌-◌, ◌^◌, ◌<◌, ◌++◌, IfOk, OnOk, All, map, length, slice_index};
-ghost use Rattle.hard_code.specs.Forms.{Jump, close_items};
+ghost use Rattle.hard_items.specs.Forms.{Jump, close_items};
 ghost use Rattle.block_relays.specs.Renumber as Renumber;
 ghost use Rattle.block_relays.specs.Renumber.{return_place};
 ghost use Rattle.block_relays.specs.Relays as Relays;
@@ -11,8 +11,8 @@ ghost use Rattle.edge_split.specs.Split.{relays_as, successors_as, placed_block,
 ghost use Rattle.edge_split.specs.Built.{plan_as, PlaceThere, AllThere, GoalThere};
 
 use crate::plan::Plan;
-use hard_code::{Class, Fix, HardBlock, Item, Sequence};
-use hard_words::Words;
+use hard_items::{Class, Fix, HardBlock, Item};
+use hard_words::{Sequence, Words};
 use mips_isa::Instr;
 use std::alloc::{AllocError, Global};
 

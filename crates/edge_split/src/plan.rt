@@ -1,12 +1,12 @@
 //! What becomes of each block.
 
 ghost use Rattle.std.specs.Prelude.{◌≡◌, ℕ, ◌+◌, ◌*◌, ◌<◌, ◌^◌, IfOk, length, map};
-ghost use Rattle.code_layout.specs.Widen.{first_goal};
+ghost use Rattle.far_branches.specs.Widen.{first_goal};
 ghost use Rattle.edge_split.specs.Split as Split;
 ghost use Rattle.edge_split.specs.Built.{plan_as, planned, all_planned, extra, places_by};
 
 use crate::counts::{calls, is_marked, joins, returns};
-use hard_code::{Fix, HardBlock, Item};
+use hard_items::{Fix, HardBlock, Item};
 use mips_isa::Instr;
 use std::alloc::{AllocError, Global};
 
@@ -30,7 +30,7 @@ pub(crate) enum Plan {
 /// The block to which a conditional branch goes, where it is another than the next block.
 fn branch_goal(block: u32, item: &Item) -> Option<u32>
     requires { block + 1 < 2 ^ 32 }
-    ensures { result ≡ Rattle.code_layout.specs.Widen.branch_goal block item.now }
+    ensures { result ≡ Rattle.far_branches.specs.Widen.branch_goal block item.now }
 {
     match (item.instr, item.fix) {
         (Instr::Beq { .. } | Instr::Bne { .. }, Fix::Block(goal)) if goal != block + 1 => Some(

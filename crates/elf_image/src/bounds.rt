@@ -3,7 +3,7 @@ ghost use Rattle.std.specs.Prelude.{◌≡◌, ◌+◌, ◌*◌, ◌<◌, ◌≤
 ghost use Rattle.elf_image.specs.Bounds.{Fits, SizesFit, is_after, is_in_text, is_window, is_alias, all_ascending};
 ghost use Rattle.elf_image.specs.Layout.{fields_of, sizes_of, sections_at};
 
-use crate::Image;
+use crate::image::Image;
 use crate::limits::{LONGEST_FILE, MOST_MEMORY, MOST_TEXT, TEXT_START};
 
 /// Whether a file can hold the image: its fields are in their bounds, and the file has at most 3,221,225,472 bytes.

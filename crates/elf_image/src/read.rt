@@ -7,8 +7,8 @@ ghost use Rattle.elf_image.specs.Held.{IsImage};
 ghost use Rattle.elf_image.specs.Layout.{fields_of};
 ghost use Rattle.elf_image.specs.Refusal.{refusal, fields_told};
 
+use crate::image::{Aliases, Image, Windows};
 use crate::layout::{data_at, windows_at};
-use crate::{Aliases, Image, Windows};
 use hard_words::Words;
 use std::alloc::{AllocError, Global};
 use thiserror::Error;

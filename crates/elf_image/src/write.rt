@@ -6,7 +6,7 @@ ghost use Rattle.elf_image.specs.Held.{IsImage};
 ghost use Rattle.hard_words.specs.Words.{AreWords};
 ghost use Rattle.elf_image.specs.Layout.{fields_of, sizes_of, half, word, pair, ident, zeros, front, back, header, segments, names, sections, image_bytes, data_at, sections_at};
 
-use crate::Image;
+use crate::image::Image;
 use crate::layout::{Sizes, aliases_at, data_at, names_at, sections_at, windows_at};
 use crate::limits::{MEMORY_START, TEXT_START};
 use byteorder::{BigEndian, ByteOrder};

@@ -1,21 +1,21 @@
 -- What was put out before changes nothing of what a frame does.
 use Rattle.std.proofs.Common.{◌≡◌, ℕ, zero, suc, Bool, true, false, not, List, [], ◌∷◌, ◌++◌, map, Option, Some, None, if◌then◌else◌, option_map, refl, sym, ap, subst}
-use Rattle.c_tree.specs.declared.run.Value.{Value}
-use Rattle.c_tree.specs.declared.run.Place.{Place}
-use Rattle.c_tree.specs.declared.run.Place.TheVariants.{Variable, Element}
-use Rattle.c_tree.specs.declared.run.Flow.{Flow}
-use Rattle.c_tree.specs.declared.run.Flow.TheVariants.{Normal, Returns}
-use Rattle.c_tree.specs.declared.run.EvalEnd.TheVariants.{Starved}
-use Rattle.c_tree.specs.declared.tree.Expr.{Expr}
-use Rattle.c_tree.specs.declared.tree.Stmt.{Stmt}
-use Rattle.c_tree.specs.declared.tree.TopItem.{TopItem}
-use Rattle.c_tree.specs.Operators.{value, is_unsigned_type, truth, is_zero, converted, operate, operate_unary, bumped}
-use Rattle.c_tree.specs.Run.{State, Run, ◌>>=◌, pure, read, read_element, write, write_element, check_index, types_now, enter, close_scope, close_call}
-use Rattle.c_tree.specs.Graph.{function_named}
-use Rattle.c_tree.specs.Meaning.{Names, Calls, calls, call_at, returns_unsigned, expression, statement, values, fetch, put_at, store, tested, assign_with, bump, turns, loop, test_or_true, next_or_nothing, value_if, call_result, or_nothing, initialise, declare, in_order, clause, Labelled, Statement, statement_step, clause_step, or_those, from_label, is_label, chosen, after_switch}
-use Rattle.c_tree.specs.Laws.{after_words, with_words}
-use Rattle.c_tree.proofs.Related.{Same, KeptMeaning, kept_expression, kept_statement, on_lift, on_if, on_next, on_after_body, on_turns, on-read, on-read_element, on-check_index, on-write, on-write_element, on-types_now, on-enter, on-close_scope, on-close_call}
-use Rattle.c_tree.proofs.Output.{Adds, adds_kept, output_is_added}
+use Rattle.c_meaning.specs.declared.run.Value.{Value}
+use Rattle.c_meaning.specs.declared.run.Place.{Place}
+use Rattle.c_meaning.specs.declared.run.Place.TheVariants.{Variable, Element}
+use Rattle.c_meaning.specs.declared.run.Flow.{Flow}
+use Rattle.c_meaning.specs.declared.run.Flow.TheVariants.{Normal, Returns}
+use Rattle.c_meaning.specs.declared.run.EvalEnd.TheVariants.{Starved}
+use Rattle.c_syntax.specs.declared.tree.Expr.{Expr}
+use Rattle.c_syntax.specs.declared.tree.Stmt.{Stmt}
+use Rattle.c_syntax.specs.declared.tree.TopItem.{TopItem}
+use Rattle.c_meaning.specs.Operators.{value, is_unsigned_type, truth, is_zero, converted, operate, operate_unary, bumped}
+use Rattle.c_meaning.specs.Run.{State, Run, ◌>>=◌, pure, read, read_element, write, write_element, check_index, types_now, enter, close_scope, close_call}
+use Rattle.c_syntax.specs.Graph.{function_named}
+use Rattle.c_meaning.specs.Meaning.{Names, Calls, calls, call_at, returns_unsigned, expression, statement, values, fetch, put_at, store, tested, assign_with, bump, turns, loop, test_or_true, next_or_nothing, value_if, call_result, or_nothing, initialise, declare, in_order, clause, Labelled, Statement, statement_step, clause_step, or_those, from_label, is_label, chosen, after_switch}
+use Rattle.c_meaning.specs.Laws.{after_words, with_words}
+use Rattle.c_meaning.proofs.Related.{Same, KeptMeaning, kept_expression, kept_statement, on_lift, on_if, on_next, on_after_body, on_turns, on-read, on-read_element, on-check_index, on-write, on-write_element, on-types_now, on-enter, on-close_scope, on-close_call}
+use Rattle.c_meaning.proofs.Output.{Adds, adds_kept, output_is_added}
 use Rattle.eval_parts.specs.declared.part.Given.{Given}
 use Rattle.eval_parts.specs.declared.part.Given.TheVariants as given
 use Rattle.eval_parts.specs.declared.part.Loop.{Loop}
@@ -27,8 +27,8 @@ use Rattle.eval_parts.specs.declared.part.OnFlow.TheVariants as on_flow
 use Rattle.eval_parts.specs.declared.part.OnValue.{OnValue}
 use Rattle.eval_parts.specs.declared.part.OnValue.TheVariants as on_value
 use Rattle.std.specs.List.{list_any}
-use Rattle.c_tree.specs.declared.tree.Local.{Local}
-use Rattle.c_tree.specs.declared.tree.Clause.{Clause}
+use Rattle.c_syntax.specs.declared.tree.Local.{Local}
+use Rattle.c_syntax.specs.declared.tree.Clause.{Clause}
 use Rattle.eval_parts.proofs.Folds.{on-clause}
 use Rattle.eval_parts.specs.Parts.{with_flow, with_value, arms_type, value_given, flow_given, place_given, test_of, next_of, body_is, body_of, turns_of, loop_of, all_of, with_place}
 

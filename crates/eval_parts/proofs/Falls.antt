@@ -1,9 +1,9 @@
 -- An expression has some work.
 use Rattle.std.proofs.Common.{◌≡◌, ℕ, ◌+◌, ◌<◌, ◌≤◌, List, [], ◌∷◌, Option, None, Some, sym, subst, arith}
-use Rattle.c_tree.specs.declared.tree.Expr.{Expr, fold_out-Expr}
-use Rattle.c_tree.specs.declared.tree.Expr.TheOpen.{Expr-F}
-use Rattle.c_tree.specs.declared.tree.TopItem.{TopItem}
-use Rattle.c_tree.specs.declared.run.EvalEnd.{EvalEnd}
+use Rattle.c_syntax.specs.declared.tree.Expr.{Expr, fold_out-Expr}
+use Rattle.c_syntax.specs.declared.tree.Expr.TheOpen.{Expr-F}
+use Rattle.c_syntax.specs.declared.tree.TopItem.{TopItem}
+use Rattle.c_meaning.specs.declared.run.EvalEnd.{EvalEnd}
 use Rattle.eval_parts.specs.declared.part.Now.TheVariants as now
 use Rattle.eval_parts.specs.declared.part.Next.{Next}
 use Rattle.eval_parts.specs.Work.{args_work, expression_work, expression_work_step, next_work}

@@ -3,3 +3,5 @@ pub mod Steps
 pub mod Adds
 pub mod Output
 pub mod Falls
+pub mod Standing
+pub mod Lessening

@@ -1,11 +1,11 @@
 -- What was put out before changes nothing of what is still to come.
 use Rattle.std.proofs.Common.{◌≡◌, ℕ, false, List, [], ◌∷◌, refl, ap, ◌∙◌}
-use Rattle.c_tree.specs.declared.tree.TopItem.{TopItem}
-use Rattle.c_tree.specs.declared.run.Value.{Value}
-use Rattle.c_tree.specs.Operators.{value}
-use Rattle.c_tree.specs.Run.{State, Outcome, Gives, Ends, Run, and_then, pure}
-use Rattle.c_tree.specs.Laws.{with_words, after_words}
-use Rattle.c_tree.specs.Meaning.{Names, CRan, ran, first_word}
+use Rattle.c_syntax.specs.declared.tree.TopItem.{TopItem}
+use Rattle.c_meaning.specs.declared.run.Value.{Value}
+use Rattle.c_meaning.specs.Operators.{value}
+use Rattle.c_meaning.specs.Run.{State, Outcome, Gives, Ends, Run, and_then, pure}
+use Rattle.c_meaning.specs.Laws.{with_words, after_words}
+use Rattle.c_meaning.specs.Meaning.{Names, CRan, ran, first_word}
 use Rattle.eval_parts.specs.declared.part.Given.{Given}
 use Rattle.eval_parts.specs.declared.part.Given.TheVariants as given
 use Rattle.eval_parts.specs.declared.part.Now.TheVariants as now
@@ -15,7 +15,7 @@ use Rattle.eval_parts.specs.declared.part.Layer.TheVariants as layer
 use Rattle.eval_parts.specs.declared.part.Frame.TheVariants as frame
 use Rattle.eval_parts.specs.declared.part.OnValue.{OnValue}
 use Rattle.eval_parts.specs.declared.part.OnFlow.{OnFlow}
-use Rattle.c_tree.specs.declared.run.Flow.{Flow}
+use Rattle.c_meaning.specs.declared.run.Flow.{Flow}
 use Rattle.eval_parts.specs.Parts.{resumed, start}
 use Rattle.eval_parts.proofs.Adds.{of_value, of_place, of_flow}
 use Rattle.eval_parts.specs.Finish.{finish, ended, OutputStays, EndsSo}

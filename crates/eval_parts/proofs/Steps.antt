@@ -1,16 +1,16 @@
 -- What each expression and each statement begins with.
 use Rattle.std.proofs.Common.{◌≡◌, ℕ, zero, suc, Bool, true, false, List, [], ◌∷◌, ◌++◌, map, Option, Some, None, if◌then◌else◌, refl, sym, ap, ◌∙◌, subst, ◌-◌, arith}
 use Rattle.std.specs.Borrow.{Bor}
-use Rattle.c_tree.specs.declared.run.Value.{Value}
-use Rattle.c_tree.specs.declared.run.Place.{Place}
-use Rattle.c_tree.specs.declared.run.Place.TheVariants.{Variable, Element}
-use Rattle.c_tree.specs.declared.tree.UnaryOp.{UnaryOp}
-use Rattle.c_tree.specs.declared.tree.BinaryOp.{BinaryOp}
-use Rattle.c_tree.specs.declared.tree.Expr.{Expr, Literal, Name, Index, Call, Unary, Binary, Logic, Choose, Assign, Bump, Comma, Paren}
-use Rattle.c_tree.specs.declared.tree.TopItem.{TopItem}
-use Rattle.c_tree.specs.Operators.{is_zero, converted, operate, operate_unary}
-use Rattle.c_tree.specs.Run.{State, Outcome, Gives, Ends, Run, and_then, pure, lift, types_now, ◌>>=◌}
-use Rattle.c_tree.specs.Meaning.{Meaning, expression, expression_step, Names, calls, indexed, fetch, store, assign_with}
+use Rattle.c_meaning.specs.declared.run.Value.{Value}
+use Rattle.c_meaning.specs.declared.run.Place.{Place}
+use Rattle.c_meaning.specs.declared.run.Place.TheVariants.{Variable, Element}
+use Rattle.c_syntax.specs.declared.tree.UnaryOp.{UnaryOp}
+use Rattle.c_syntax.specs.declared.tree.BinaryOp.{BinaryOp}
+use Rattle.c_syntax.specs.declared.tree.Expr.{Expr, Literal, Name, Index, Call, Unary, Binary, Logic, Choose, Assign, Bump, Comma, Paren}
+use Rattle.c_syntax.specs.declared.tree.TopItem.{TopItem}
+use Rattle.c_meaning.specs.Operators.{is_zero, converted, operate, operate_unary}
+use Rattle.c_meaning.specs.Run.{State, Outcome, Gives, Ends, Run, and_then, pure, lift, types_now, ◌>>=◌}
+use Rattle.c_meaning.specs.Meaning.{Meaning, expression, expression_step, Names, calls, indexed, fetch, store, assign_with}
 use Rattle.eval_parts.specs.declared.part.Given.{Given}
 use Rattle.eval_parts.specs.declared.part.Given.TheVariants as given
 use Rattle.eval_parts.specs.declared.part.Now.{Now}

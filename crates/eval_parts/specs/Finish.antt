@@ -1,11 +1,11 @@
 -- What is still to come of a run that stands in the middle.
 use Rattle.std.specs.Prelude.{◌≡◌, ℕ, List, [], ◌∷◌}
-use Rattle.c_tree.specs.declared.tree.TopItem.{TopItem}
-use Rattle.c_tree.specs.declared.run.Value.{Value}
-use Rattle.c_tree.specs.Operators.{value}
-use Rattle.c_tree.specs.Run.{State, Outcome, Gives, Ends, and_then, pure}
-use Rattle.c_tree.specs.Meaning.{Names, CRan, first_word, ran}
-use Rattle.c_tree.specs.Laws.{with_words, after_words}
+use Rattle.c_syntax.specs.declared.tree.TopItem.{TopItem}
+use Rattle.c_meaning.specs.declared.run.Value.{Value}
+use Rattle.c_meaning.specs.Operators.{value}
+use Rattle.c_meaning.specs.Run.{State, Outcome, Gives, Ends, and_then, pure}
+use Rattle.c_meaning.specs.Meaning.{Names, CRan, first_word, ran}
+use Rattle.c_meaning.specs.Laws.{with_words, after_words}
 use Rattle.eval_state.specs.State.{Held, state}
 use Rattle.eval_parts.specs.declared.part.Given.{Given}
 use Rattle.eval_parts.specs.declared.part.Given.TheVariants as given

@@ -1,3 +1,5 @@
 pub mod Parts
 pub mod Finish
 pub mod Work
+pub mod Steps
+pub mod Tables

@@ -2,24 +2,24 @@
 use Rattle.std.specs.Prelude.{◌≡◌, ℕ, zero, suc, Bool, true, false, not, List, [], ◌∷◌, ◌++◌, map, option_map, Option, Some, None, if◌then◌else◌}
 use Rattle.std.specs.List.{list_any}
 use Rattle.std.specs.Borrow.{Bor}
-use Rattle.c_tree.specs.declared.run.Value.{Value}
-use Rattle.c_tree.specs.declared.run.Place.{Place}
-use Rattle.c_tree.specs.declared.run.Place.TheVariants.{Element}
-use Rattle.c_tree.specs.declared.run.Flow.{Flow}
-use Rattle.c_tree.specs.declared.run.Flow.TheVariants.{Normal, Breaks, Continues, Returns}
-use Rattle.c_tree.specs.declared.run.EvalEnd.{EvalEnd}
-use Rattle.c_tree.specs.declared.run.EvalEnd.TheVariants.{Starved, Exited}
-use Rattle.c_tree.specs.declared.tree.Expr.{Expr}
-use Rattle.c_tree.specs.declared.tree.Stmt.{Stmt}
-use Rattle.c_tree.specs.declared.tree.TopItem.{TopItem}
-use Rattle.c_tree.specs.Operators.{is_unsigned_type, converted, truth, is_zero, common, operate, operate_unary, bumped}
-use Rattle.c_tree.specs.Run.{State, Outcome, Gives, Ends, Run, and_then, ◌>>=◌, ◌>>◌, pure, stop, lift, meaningless, types_now, counted, designated}
-use Rattle.c_tree.specs.Run.{object_type, check_index, write, close_scope, close_call, end_active, spend}
-use Rattle.c_tree.specs.Meaning.{Calls, fetch, store, values, tested, Statement, expression, statement, clause, declare, in_order, in_scope, value_if}
-use Rattle.c_tree.specs.Meaning.{test_or_true, next_or_nothing, loop, turns, do_loop, for_loop, after_body, if_normal, or_nothing, chosen, after_switch}
-use Rattle.c_tree.specs.Meaning.{Labelled, from_label, or_those, is_label, label_word, call_result, in_body, Names, call_at, calls, CRan, bump, assign_with}
-use Rattle.c_tree.specs.Meaning.{returned, returns_unsigned, call_in_word}
-use Rattle.c_tree.specs.Graph.{function_named}
+use Rattle.c_meaning.specs.declared.run.Value.{Value}
+use Rattle.c_meaning.specs.declared.run.Place.{Place}
+use Rattle.c_meaning.specs.declared.run.Place.TheVariants.{Element}
+use Rattle.c_meaning.specs.declared.run.Flow.{Flow}
+use Rattle.c_meaning.specs.declared.run.Flow.TheVariants.{Normal, Breaks, Continues, Returns}
+use Rattle.c_meaning.specs.declared.run.EvalEnd.{EvalEnd}
+use Rattle.c_meaning.specs.declared.run.EvalEnd.TheVariants.{Starved, Exited}
+use Rattle.c_syntax.specs.declared.tree.Expr.{Expr}
+use Rattle.c_syntax.specs.declared.tree.Stmt.{Stmt}
+use Rattle.c_syntax.specs.declared.tree.TopItem.{TopItem}
+use Rattle.c_meaning.specs.Operators.{is_unsigned_type, converted, truth, is_zero, common, operate, operate_unary, bumped}
+use Rattle.c_meaning.specs.Run.{State, Outcome, Gives, Ends, Run, and_then, ◌>>=◌, ◌>>◌, pure, stop, lift, meaningless, types_now, counted, designated}
+use Rattle.c_meaning.specs.Run.{object_type, check_index, write, close_scope, close_call, end_active, spend}
+use Rattle.c_meaning.specs.Meaning.{Calls, fetch, store, values, tested, Statement, expression, statement, clause, declare, in_order, in_scope, value_if}
+use Rattle.c_meaning.specs.Meaning.{test_or_true, next_or_nothing, loop, turns, do_loop, for_loop, after_body, if_normal, or_nothing, chosen, after_switch}
+use Rattle.c_meaning.specs.Meaning.{Labelled, from_label, or_those, is_label, label_word, call_result, in_body, Names, call_at, calls, CRan, bump, assign_with}
+use Rattle.c_meaning.specs.Meaning.{returned, returns_unsigned, call_in_word}
+use Rattle.c_syntax.specs.Graph.{function_named}
 use Rattle.eval_parts.specs.declared.part.Given.{Given}
 use Rattle.eval_parts.specs.declared.part.Given.TheVariants as given
 use Rattle.eval_parts.specs.declared.part.Loop.{Loop}
@@ -35,8 +35,8 @@ use Rattle.eval_parts.specs.declared.part.OnFlow.TheVariants as on_flow
 use Rattle.eval_parts.specs.declared.part.Frame.{Frame}
 use Rattle.eval_parts.specs.declared.part.Frame.TheVariants as frame
 use Rattle.eval_parts.specs.declared.part.Next.{Next}
-use Rattle.c_tree.specs.declared.tree.Function.{Function}
-use Rattle.c_tree.specs.declared.tree.Clause.{Clause}
+use Rattle.c_syntax.specs.declared.tree.Function.{Function}
+use Rattle.c_syntax.specs.declared.tree.Clause.{Clause}
 use Rattle.eval_state.specs.State.{Held, state}
 
 -- ---- what begins

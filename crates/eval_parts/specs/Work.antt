@@ -1,16 +1,16 @@
 -- How much work a run has left at most: each turn takes some of it. A loop that begins can have as many turns as there was fuel at the start;
 -- what a call can cost at most is given for the present function.
 use Rattle.std.specs.Prelude.{ℕ, zero, suc, ◌+◌, ◌*◌, ◌<◌, List, [], ◌∷◌, map, length, Option, None, Some}
-use Rattle.c_tree.specs.declared.tree.Expr.{Expr, fold-Expr}
-use Rattle.c_tree.specs.declared.tree.Expr.TheOpen.{Expr-F}
-use Rattle.c_tree.specs.declared.tree.Local.{Local}
-use Rattle.c_tree.specs.declared.tree.Clause.{Clause, fold-Clause}
-use Rattle.c_tree.specs.declared.tree.Stmt.{Stmt, fold-Stmt}
-use Rattle.c_tree.specs.declared.tree.Stmt.TheOpen.{Stmt-F, Clause-F}
-use Rattle.c_tree.specs.declared.tree.Function.{Function}
-use Rattle.c_tree.specs.declared.tree.TopItem.{TopItem}
-use Rattle.c_tree.specs.Sizes.{or_zero}
-use Rattle.c_tree.specs.Graph.{functions, body_of}
+use Rattle.c_syntax.specs.declared.tree.Expr.{Expr, fold-Expr}
+use Rattle.c_syntax.specs.declared.tree.Expr.TheOpen.{Expr-F}
+use Rattle.c_syntax.specs.declared.tree.Local.{Local}
+use Rattle.c_syntax.specs.declared.tree.Clause.{Clause, fold-Clause}
+use Rattle.c_syntax.specs.declared.tree.Stmt.{Stmt, fold-Stmt}
+use Rattle.c_syntax.specs.declared.tree.Stmt.TheOpen.{Stmt-F, Clause-F}
+use Rattle.c_syntax.specs.declared.tree.Function.{Function}
+use Rattle.c_syntax.specs.declared.tree.TopItem.{TopItem}
+use Rattle.c_syntax.specs.Sizes.{or_zero}
+use Rattle.c_syntax.specs.Graph.{functions, body_of}
 use Rattle.eval_parts.specs.declared.part.Loop.{Loop}
 use Rattle.eval_parts.specs.declared.part.Loop.TheVariants as a_loop
 use Rattle.eval_parts.specs.declared.part.Now.{Now}

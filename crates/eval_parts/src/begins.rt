@@ -1,16 +1,17 @@
 //! What an expression and a statement begin with.
 
 ghost use Rattle.std.specs.Prelude.{◌≡◌, ◌+◌, suc};
-ghost use Rattle.c_tree.specs.Sizes.{or_zero};
-ghost use Rattle.c_tree.specs.Meaning.{is_label, label_word};
+ghost use Rattle.c_syntax.specs.Sizes.{or_zero};
+ghost use Rattle.c_meaning.specs.Meaning.{is_label, label_word};
 ghost use Rattle.eval_parts.specs.Parts.{Begins, BeginsAs, returning, one_of_turns, body_is};
 ghost use Rattle.eval_parts.specs.Work.{Falls, Lighter, expression_work, round_of, turns_work};
 
 use crate::part::{
     Given, Loop, Next, Now, OnFlow, OnPlace, OnValue, flow_of, goes, place_of, value_of,
 };
-use c_tree::{Clause, EvalEnd, Expr, Flow, Label, Local, Place, Stmt, Value};
-use eval_state::constant_word;
+use c_constants::constant_word;
+use c_meaning::{EvalEnd, Flow, Place, Value};
+use c_syntax::{Clause, Expr, Label, Local, Stmt};
 use sqlite_items::{Boxed, Items};
 use std::alloc::Global;
 

@@ -2,6 +2,7 @@
 #![tactic(auto)]
 
 mod begins;
+mod code;
 mod laws;
 mod part;
 
@@ -9,6 +10,7 @@ pub use begins::{
     body, clauses, expression, in_for, is_label, labels, locals, place, search, statement,
     statements, tested, turns,
 };
+pub use code::Code;
 pub use laws::{ends_so, output_stays};
 pub use part::{
     Frame, Given, Layer, Loop, Next, Now, OnFlow, OnPlace, OnValue, flow_of, goes, place_of,

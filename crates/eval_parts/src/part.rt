@@ -2,9 +2,8 @@
 
 ghost use Rattle.std.specs.Prelude.{◌≡◌, Some, None};
 
-use c_tree::{
-    BinaryOp, Clause, EvalEnd, Expr, Flow, Function, Label, Local, Place, Stmt, UnaryOp, Value,
-};
+use c_meaning::{EvalEnd, Flow, Place, Value};
+use c_syntax::{BinaryOp, Clause, Expr, Function, Label, Local, Stmt, UnaryOp};
 use eval_state::{Active, Scopes};
 use sqlite_items::{Boxed, Items};
 

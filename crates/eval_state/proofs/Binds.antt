@@ -1,10 +1,10 @@
 -- Where the arguments end, no parameter is left to take one.
 use Rattle.std.proofs.Common.{◌≡◌, ℕ, zero, suc, List, [], ◌∷◌, ◌++◌, length, ◌≤◌, drop, refl, sym, ap, ◌∙◌}
 use Rattle.std.proofs.lemmas.List.{drop_all}
-use Rattle.c_tree.specs.declared.tree.Param.{Param}
-use Rattle.c_tree.specs.declared.run.Value.{Value}
-use Rattle.c_tree.specs.Run.{Entry}
-use Rattle.c_tree.specs.Meaning.{bound}
+use Rattle.c_syntax.specs.declared.tree.Param.{Param}
+use Rattle.c_meaning.specs.declared.run.Value.{Value}
+use Rattle.c_meaning.specs.Run.{Entry}
+use Rattle.c_meaning.specs.Meaning.{bound}
 
 bound_none : (ps : List Param) → bound ps [] ≡ []
 bound_none [] = refl

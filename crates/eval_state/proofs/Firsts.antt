@@ -3,8 +3,8 @@ use Rattle.std.proofs.Common.{◌≡◌, ℕ, zero, suc, ◌+◌, ◌<◌, ◌�
 use Rattle.std.specs.List.{slice_get}
 use Rattle.std.specs.Prelude.{slice_set}
 use Rattle.std.proofs.lemmas.Bool.{eqb-true, eqb-false, eq-eqb, ne_eqb}
-use Rattle.c_tree.specs.Run as run
-use Rattle.c_tree.specs.Run.{find_global, change_global}
+use Rattle.c_meaning.specs.Run as run
+use Rattle.c_meaning.specs.Run.{find_global, change_global}
 use Rattle.eval_state.specs.declared.files.Object.{Object}
 use Rattle.eval_state.specs.declared.files.FileVariable.{FileVariable}
 use Rattle.eval_state.specs.Files.{object_of, global_of, first_from, is_named, HasFirst, Notes, changed_at, ChangesAt, with_word, with_element}

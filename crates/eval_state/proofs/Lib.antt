@@ -1,7 +1,5 @@
 pub mod Standing
 pub mod Stores
-pub mod Views
-pub mod Outcomes
 pub mod Firsts
 pub mod Uses
 pub mod Padding

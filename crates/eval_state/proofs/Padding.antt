@@ -1,6 +1,6 @@
 -- The words of an array, with zeros for those that are missing.
 use Rattle.std.proofs.Common.{◌≡◌, ℕ, zero, suc, ◌<◌, ◌≤◌, List, [], ◌∷◌, ◌++◌, length, take, refl, ap, ◌∙◌, arith, min}
-use Rattle.c_tree.specs.Meaning.{padded}
+use Rattle.c_meaning.specs.Meaning.{padded}
 
 pub padded_take : (n : ℕ) (ws : List ℕ) → padded n (take n ws) ≡ padded n ws
 padded_take zero ws = refl

@@ -4,9 +4,9 @@ use Rattle.std.specs.List.{slice_get}
 use Rattle.std.specs.Prelude.{slice_set}
 use Rattle.std.proofs.lemmas.List.{reverse-append, reverse-reverse, length-reverse}
 use Rattle.std.proofs.lemmas.Bool.{eqb-true, eqb-false, eq-eqb, ne_eqb}
-use Rattle.c_tree.specs.declared.run.Value.{Value}
-use Rattle.c_tree.specs.Operators.{value}
-use Rattle.c_tree.specs.Run.{Entry, innermost, put_innermost, entered, find_entry, put_entry, is_some_value, without_first, or_else}
+use Rattle.c_meaning.specs.declared.run.Value.{Value}
+use Rattle.c_meaning.specs.Operators.{value}
+use Rattle.c_meaning.specs.Run.{Entry, innermost, put_innermost, entered, find_entry, put_entry, is_some_value, without_first, or_else}
 use Rattle.eval_state.specs.declared.scopes.Held.{Held}
 use Rattle.eval_state.specs.declared.scopes.Cell.{Cell}
 use Rattle.eval_state.specs.declared.scopes.Cell.TheVariants as cell

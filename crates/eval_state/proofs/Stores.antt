@@ -3,9 +3,9 @@ use Rattle.std.proofs.Common.{◌≡◌, ◌≢◌, ℕ, zero, suc, ◌+◌, ◌
 use Rattle.std.specs.Prelude.{slice_set, nat_le}
 use Rattle.std.proofs.lemmas.List.{reverse-append, reverse-reverse, length-reverse, get_or-set_same, get_or-set_other, get_or_past}
 use Rattle.std.proofs.lemmas.Bool.{eqb-true, eqb-false, eq-eqb, ne_eqb, leb-true, leb-false, cases_lt}
-use Rattle.c_tree.specs.declared.run.Value.{Value}
-use Rattle.c_tree.specs.Operators.{value}
-use Rattle.c_tree.specs.Run.{Entry, innermost, put_innermost, entered}
+use Rattle.c_meaning.specs.declared.run.Value.{Value}
+use Rattle.c_meaning.specs.Operators.{value}
+use Rattle.c_meaning.specs.Run.{Entry, innermost, put_innermost, entered}
 use Rattle.eval_state.specs.declared.scopes.Held.{Held}
 use Rattle.eval_state.specs.declared.scopes.Cell.{Cell}
 use Rattle.eval_state.specs.declared.scopes.Cell.TheVariants as cell

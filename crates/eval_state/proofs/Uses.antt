@@ -3,8 +3,8 @@ use Rattle.std.proofs.Common.{◌≡◌, ◌≢◌, ℕ, zero, suc, ◌+◌, ◌
 use Rattle.std.specs.List.{slice_get}
 use Rattle.std.specs.Prelude.{slice_set}
 use Rattle.std.proofs.lemmas.List.{reverse-append, length_push}
-use Rattle.c_tree.specs.declared.run.Value.{Value}
-use Rattle.c_tree.specs.Run.{Entry, innermost, put_innermost, is_some_value, without_first, entered, or_else, find_entry}
+use Rattle.c_meaning.specs.declared.run.Value.{Value}
+use Rattle.c_meaning.specs.Run.{Entry, innermost, put_innermost, is_some_value, without_first, entered, or_else, find_entry}
 use Rattle.eval_state.specs.declared.scopes.Held.{Held}
 use Rattle.eval_state.specs.declared.scopes.Cell.{Cell}
 use Rattle.eval_state.specs.declared.scopes.Cell.TheVariants as cell

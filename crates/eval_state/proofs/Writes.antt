@@ -1,7 +1,7 @@
 -- A store into a variable at file scope.
 use Rattle.std.proofs.Common.{◌≡◌, ℕ, Bool, true, false, List, Option, Some, None, refl, sym, ap, ◌∙◌}
-use Rattle.c_tree.specs.declared.run.Value.{Value}
-use Rattle.c_tree.specs.Run.{Entry, Global, State, Gives, innermost, put_innermost, change_global, put_scalar, is_some_value, stored, write}
+use Rattle.c_meaning.specs.declared.run.Value.{Value}
+use Rattle.c_meaning.specs.Run.{Entry, Global, State, Gives, innermost, put_innermost, change_global, put_scalar, is_some_value, stored, write}
 use Rattle.eval_state.specs.State.{Held, state}
 use Rattle.eval_state.proofs.Uses.{put_nothing}
 

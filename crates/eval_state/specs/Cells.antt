@@ -1,8 +1,8 @@
 -- The variables of one call as the meaning of the language has them, and where each stands. It serves private contracts.
 use Rattle.std.specs.Prelude.{◌≡◌, ℕ, suc, ◌+◌, ◌-◌, ◌^◌, ◌<◌, ◌==◌, nat_le, Bool, List, [], ◌∷◌, length, reverse, slice_index, slice_get, slice_set}
 use Rattle.std.specs.Prelude.{if◌then◌else◌, Option, Some, None, true, false}
-use Rattle.c_tree.specs.Operators.{value}
-use Rattle.c_tree.specs.Run.{Entry, entered, without_first}
+use Rattle.c_meaning.specs.Operators.{value}
+use Rattle.c_meaning.specs.Run.{Entry, entered, without_first}
 use Rattle.eval_state.specs.declared.scopes.Held.{Held}
 use Rattle.eval_state.specs.declared.scopes.Cell.{Cell}
 use Rattle.eval_state.specs.declared.scopes.Cell.TheVariants as cell

@@ -1,7 +1,7 @@
 -- The variables at file scope as the meaning of the language has them, and where each stands.
 use Rattle.std.specs.Prelude.{◌≡◌, ℕ, suc, Bool, List, [], ◌∷◌, Option, Some, None, slice_index, slice_get, slice_set, if◌then◌else◌, ◌==◌, ◌&&◌}
-use Rattle.c_tree.specs.Operators.{value}
-use Rattle.c_tree.specs.Run as run
+use Rattle.c_meaning.specs.Operators.{value}
+use Rattle.c_meaning.specs.Run as run
 use Rattle.eval_state.specs.declared.files.Object.{Object}
 use Rattle.eval_state.specs.declared.files.Object.TheVariants as an_object
 use Rattle.eval_state.specs.declared.files.FileVariable.{FileVariable}

@@ -1,4 +1,3 @@
 pub mod Cells
 pub mod Files
 pub mod State
-pub mod Constant

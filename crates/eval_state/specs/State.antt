@@ -1,10 +1,10 @@
 -- The state of a run but for its output, and what its steps answer.
 use Rattle.std.specs.Prelude.{ℕ, List, [], ◌∷◌, length, slice_index_or, nat_lt, Bool, if◌then◌else◌, Option, Some, None, Result, Ok, Err}
-use Rattle.c_tree.specs.declared.run.Value.{Value}
-use Rattle.c_tree.specs.declared.run.EvalEnd.{EvalEnd}
-use Rattle.c_tree.specs.declared.run.EvalEnd.TheVariants.{Starved, Trapped}
-use Rattle.c_tree.specs.Operators.{value}
-use Rattle.c_tree.specs.Run.{Entry, Object, Scalar, Array, Global, State, Outcome, Gives, Ends}
+use Rattle.c_meaning.specs.declared.run.Value.{Value}
+use Rattle.c_meaning.specs.declared.run.EvalEnd.{EvalEnd}
+use Rattle.c_meaning.specs.declared.run.EvalEnd.TheVariants.{Starved, Trapped}
+use Rattle.c_meaning.specs.Operators.{value}
+use Rattle.c_meaning.specs.Run.{Entry, Object, Scalar, Array, Global, State, Outcome, Gives, Ends}
 use Rattle.eval_state.specs.declared.active.Active.{Active}
 
 -- the state of a run but for its output, which is handed out word by word

@@ -1,15 +1,16 @@
 //! The variables at file scope.
 
 ghost use Rattle.std.specs.Prelude.{◌≡◌, ◌++◌, ◌∷◌, [], IfOk, map, option_map, slice_index};
-ghost use Rattle.c_tree.specs.Run.{find_global, change_global, put_scalar, put_element, object_type};
-ghost use Rattle.c_tree.specs.Meaning.{constant, first_or_zero, padded, initial, global, globals};
-ghost use Rattle.c_tree.specs.Operators.{is_unsigned_type};
+ghost use Rattle.c_meaning.specs.Run.{find_global, change_global, put_scalar, put_element, object_type};
+ghost use Rattle.c_meaning.specs.Meaning.{constant, first_or_zero, padded, initial, global, globals};
+ghost use Rattle.c_meaning.specs.Operators.{is_unsigned_type};
 ghost use Rattle.eval_state.specs.Files.{ChangesAt, HasFirst, object_of, with_word, with_element};
 ghost use Rattle.eval_state.specs.State.{scalar_of, element_of, index_of};
 
-use crate::constants::constant_word;
 use crate::table;
-use c_tree::{EvalEnd, Expr, GlobalVar, Shape, TopItem, Ty, Value};
+use c_constants::constant_word;
+use c_meaning::{EvalEnd, Value};
+use c_syntax::{Expr, GlobalVar, Shape, TopItem, Ty};
 use sqlite_items::Items;
 use std::alloc::{AllocError, Global};
 use std::marker::Model;
@@ -48,7 +49,7 @@ pub struct Files {
 
 impl Model for Files {
     ghost use Rattle.std.specs.Prelude.{List, map};
-    ghost use Rattle.c_tree.specs.Run.{Global};
+    ghost use Rattle.c_meaning.specs.Run.{Global};
 
     ghost Value = { List Global };
 

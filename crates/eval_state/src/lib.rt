@@ -3,7 +3,6 @@
 #![tactic(auto)]
 
 mod active;
-mod constants;
 mod files;
 mod memory;
 mod params;
@@ -11,6 +10,5 @@ mod scopes;
 pub mod table;
 
 pub use active::Active;
-pub use constants::constant_word;
 pub use memory::Memory;
 pub use scopes::Scopes;

@@ -1,15 +1,16 @@
 //! The state of a run, but for its output, which is handed out word by word.
 
 ghost use Rattle.std.specs.Prelude.{◌≡◌, ◌≤◌, IfOk, reverse};
-ghost use Rattle.c_tree.specs.Run.{Gives, write, check_index, enter, open_scope, close_scope, open_call, close_call, begin_active, end_active, spend, take_in, designated, object_type};
-ghost use Rattle.c_tree.specs.Meaning.{fetch, store, bound, first_state};
+ghost use Rattle.c_meaning.specs.Run.{Gives, write, check_index, enter, open_scope, close_scope, open_call, close_call, begin_active, end_active, spend, take_in, designated, object_type};
+ghost use Rattle.c_meaning.specs.Meaning.{fetch, store, bound, first_state};
 ghost use Rattle.eval_state.specs.State.{state, settled, number_of};
 
 use crate::active::Active;
 use crate::files::Files;
 use crate::params::params_in;
 use crate::scopes::Scopes;
-use c_tree::{EvalEnd, Param, Place, TopItem, Value};
+use c_meaning::{EvalEnd, Place, Value};
+use c_syntax::{Param, TopItem};
 use sqlite_items::Items;
 use std::alloc::{AllocError, Global};
 use std::marker::Model;

@@ -1,12 +1,13 @@
 //! The variables with which a call begins.
 
 ghost use Rattle.std.specs.Prelude.{◌≡◌, ◌++◌, ◌∷◌, [], List, IfOk};
-ghost use Rattle.c_tree.specs.Run.{Entry};
-ghost use Rattle.c_tree.specs.Meaning.{bind, bound};
-ghost use Rattle.c_tree.specs.Operators.{is_unsigned_type};
+ghost use Rattle.c_meaning.specs.Run.{Entry};
+ghost use Rattle.c_meaning.specs.Meaning.{bind, bound};
+ghost use Rattle.c_meaning.specs.Operators.{is_unsigned_type};
 
 use crate::scopes::Scopes;
-use c_tree::{Param, Ty, Value};
+use c_meaning::Value;
+use c_syntax::{Param, Ty};
 use std::alloc::{AllocError, Global};
 
 /// One scope with the parameters, each with its argument.

@@ -1,12 +1,12 @@
 //! The variables of one call: its parameters and the variables of its blocks.
 
 ghost use Rattle.std.specs.Prelude.{◌≡◌, [], ◌∷◌, IfOk, List, reverse, slice_get};
-ghost use Rattle.c_tree.specs.Run.{without_first, entered, innermost, put_innermost, is_some_value};
+ghost use Rattle.c_meaning.specs.Run.{without_first, entered, innermost, put_innermost, is_some_value};
 ghost use Rattle.eval_state.specs.Cells.{offset, held_of, scopes_of, Kept, StoresAt, Leaves};
 ghost use Rattle.eval_state.specs.declared.scopes.Cell.{Cell};
 
 use crate::table;
-use c_tree::Value;
+use c_meaning::Value;
 use std::alloc::{AllocError, Global};
 use std::marker::Model;
 
@@ -43,7 +43,7 @@ pub struct Scopes {
 
 impl Model for Scopes {
     ghost use Rattle.std.specs.Prelude.{List, reverse};
-    ghost use Rattle.c_tree.specs.Run.{Entry};
+    ghost use Rattle.c_meaning.specs.Run.{Entry};
 
     ghost Value = { List (List Entry) };
 

@@ -3,13 +3,13 @@
 ghost use Rattle.std.specs.Prelude.{◌≡◌, ◌+◌, ◌≤◌, IfOk};
 ghost use Rattle.eval_parts.specs.Parts.{Works, Takes, Does, DoesIn, counting, input_word};
 ghost use Rattle.eval_parts.specs.Work.{Falls, FallsFrom, Lighter, function_work};
-ghost use Rattle.eval_steps.specs.Steps.{calling, FallsFromCall};
+ghost use Rattle.eval_parts.specs.Steps.{calling, FallsFromCall};
 
-use crate::code::Code;
-use crate::values::converted;
-use c_tree::{EvalEnd, Flow, Function, Ty, Value};
-use eval_parts::{Frame, Given, Next, Now, OnFlow, OnValue, flow_of, goes, value_of};
+use c_meaning::{EvalEnd, Flow, Value};
+use c_syntax::{Function, Ty};
+use eval_parts::{Code, Frame, Given, Next, Now, OnFlow, OnValue, flow_of, goes, value_of};
 use eval_state::{Active, Memory, Scopes};
+use eval_values::converted;
 use sqlite_items::Items;
 use std::alloc::{AllocError, Global};
 

@@ -3,14 +3,7 @@
 #![tactic(auto)]
 
 mod calls;
-mod code;
-mod loops;
-mod places;
-mod statements;
 mod steps;
-mod types;
-mod values;
 
 pub use calls::{called, next_word};
-pub use code::Code;
 pub use steps::{begin, resume};

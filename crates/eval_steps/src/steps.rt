@@ -3,20 +3,20 @@
 ghost use Rattle.std.specs.Prelude.{◌≡◌, ◌+◌, ◌≤◌, IfOk, IsTrue};
 ghost use Rattle.eval_parts.specs.Parts.{Works, Takes, TakesIn};
 ghost use Rattle.eval_parts.specs.Work.{FallsFrom};
-ghost use Rattle.eval_steps.specs.Steps.{is_inner, FallsWithin};
+ghost use Rattle.eval_parts.specs.Steps.{is_inner, FallsWithin};
 
 use crate::calls::{function, left, no_longer_active};
-use crate::code::Code;
-use crate::loops::{after_first, after_turn, first_turn, next_turn, whole_loop};
-use crate::places::{assigned, bumped, fetched, index_of, initialised, stored, stored_by};
-use crate::statements::{
-    after_switch, block, branch, closed, declared, for_loop, normal_then, switched,
-};
-use crate::types::choice;
-use crate::values::{arguments, converted, logic, next_argument, operated, truth, unary};
-use c_tree::{EvalEnd, Flow, Place, Value};
-use eval_parts::{Frame, Given, Next, Now, OnFlow, OnPlace, OnValue, goes, value_of};
+use c_meaning::{EvalEnd, Flow, Place, Value};
+use eval_parts::{Code, Frame, Given, Next, Now, OnFlow, OnPlace, OnValue, goes, value_of};
 use eval_state::Memory;
+use eval_statements::{
+    after_first, after_switch, after_turn, block, branch, closed, declared, first_turn, for_loop,
+    next_turn, normal_then, switched, whole_loop,
+};
+use eval_values::{
+    arguments, assigned, bumped, choice, converted, fetched, index_of, initialised, logic,
+    next_argument, operated, stored, stored_by, truth, unary,
+};
 use std::alloc::{AllocError, Global};
 
 /// A part that begins within the present function.

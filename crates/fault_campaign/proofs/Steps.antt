@@ -9,7 +9,7 @@ use Rattle.mips_isa.specs.declared.instr.End.{End}
 use Rattle.mips_isa.specs.declared.instr.End.TheVariants.{Exception, Exited, Starved}
 use Rattle.mips_isa.specs.Machine.{State, step, step_from, planned, perform, load, store, service, in_memory, place, reg, moved, with_reg, ended}
 use Rattle.hard_words.specs.declared.ChangeKind.TheVariants.{Flip}
-use Rattle.mips_isa.specs.RunLaws.{EndStays, ReplaceSplits, RunJoins, joined}
+use Rattle.mips_laws.specs.RunLaws.{EndStays, ReplaceSplits, RunJoins, joined}
 use Rattle.mips_isa.specs.Runs.{Ran, run, after_turn, put_out, replaced}
 use Rattle.fault_campaign.specs.Campaign.{flip_at}
 use Rattle.fault_campaign.specs.Runs.{AreAddresses, KeepsText}

@@ -2,7 +2,7 @@
 use Rattle.std.proofs.Common.{add-one, slice_index_or, ◌≡◌, ◌≤◌, ◌<◌, ℕ, zero, suc, ◌+◌, ◌-◌, ◌*◌, ◌^◌, arith, ap, refl, sym, subst, ◌∙◌, List, Option, Some, None}
 use Rattle.std.specs.Prelude.{length, slice_index, Contains}
 use Rattle.std.proofs.lemmas.Option.{get_or_from_slice_get, slice_get_read}
-use Rattle.hard_words.specs.Observed.{Seen}
+use Rattle.hard_runs.specs.Observed.{Seen}
 use Rattle.mips_isa.specs.declared.instr.End.{End}
 use Rattle.mips_isa.specs.Image.{ImageFields, boot_state}
 use Rattle.mips_isa.specs.Machine.{State}

@@ -1,14 +1,14 @@
 -- What flips of single bits come to, and how often each. The notions are the project's own, after the experiments of the articles on
 -- EDDI and CFCSS (IEEE Transactions on Reliability 51(1), 2002).
 use Rattle.std.specs.Prelude.{◌≡◌, ◌<◌, ℕ, ◌+◌, ◌%◌, zero, suc, Option, Some, None, List, Contains}
-use Rattle.hard_words.specs.Observed.{Prefix, Seen}
+use Rattle.hard_runs.specs.Observed.{Prefix, Seen}
 use Rattle.hard_words.specs.declared.Change.{Change}
 use Rattle.hard_words.specs.declared.ChangeKind.TheVariants.{Flip}
 use Rattle.mips_isa.specs.declared.instr.End.{End}
 use Rattle.mips_isa.specs.declared.instr.End.TheVariants.{Exited, Trapped, Starved, Reported, Exception, Hazard}
 use Rattle.mips_isa.specs.Runs.{observed}
 use Rattle.mips_isa.specs.Image.{ImageFields, boot_state}
-use Rattle.mips_isa.specs.Faults.{image_run}
+use Rattle.mips_faults.specs.Faults.{image_run}
 use Rattle.fault_campaign.specs.declared.outcome.Outcome.{Outcome}
 use Rattle.fault_campaign.specs.declared.outcome.Outcome.TheVariants as outcomes
 use Rattle.fault_campaign.specs.declared.outcome.Tally.{Tally}

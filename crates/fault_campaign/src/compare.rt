@@ -1,7 +1,7 @@
 //! A run with a flip beside the run without it.
 
 ghost use Rattle.std.specs.Prelude.{◌≡◌, ◌↔◌, IsTrue, Contains};
-ghost use Rattle.hard_words.specs.Observed.{Prefix};
+ghost use Rattle.hard_runs.specs.Observed.{Prefix};
 ghost use Rattle.fault_campaign.specs.Campaign.{ComesTo, told};
 
 use crate::outcome::Outcome;

@@ -3,7 +3,7 @@
 ghost use Rattle.std.specs.Prelude.{◌≡◌, ◌≤◌, ◌<◌, None, IfOk, OnOk, length};
 ghost use Rattle.elf_image.specs.Bounds.{Fits};
 ghost use Rattle.elf_image.specs.Layout.{fields_of};
-ghost use Rattle.mips_isa.specs.Faults.{image_run};
+ghost use Rattle.mips_faults.specs.Faults.{image_run};
 ghost use Rattle.mips_machine.specs.View.{state_of};
 ghost use Rattle.fault_campaign.specs.Campaign.{Counts, IsTally, Tries};
 ghost use Rattle.fault_campaign.specs.Runs.{IsReady, KeepsText, image_of};

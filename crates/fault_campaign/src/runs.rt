@@ -12,7 +12,8 @@ ghost use Rattle.fault_campaign.specs.Runs.{AreAddresses, KeepsText, IsClean};
 
 use elf_image::Image;
 use hard_words::{Change, ChangeKind, OutOfMemory, Words};
-use mips_isa::{End, end_stays, replace_splits, run_joins};
+use mips_isa::End;
+use mips_laws::{end_stays, replace_splits, run_joins};
 use mips_machine::Machine;
 use std::alloc::Global;
 

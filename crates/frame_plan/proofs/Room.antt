@@ -1,10 +1,10 @@
 -- What a plan has stands apart, aligned and in memory.
 use Rattle.std.proofs.Common.{◌≡◌, ◌≤◌, ◌<◌, ℕ, zero, suc, ◌+◌, ◌-◌, ◌*◌, ◌%◌, arith, ap, refl, sym, ◌∙◌, subst, List, [], ◌∷◌, length, map, take, drop, sum, le_refl, le_trans}
 use Rattle.std.specs.Prelude.{Option, Some, None, slice_get, slice_index_or}
-use Rattle.mid_code.specs.declared.code.MidFunction.{MidFunction}
-use Rattle.mid_code.specs.declared.code.Mid.{Mid}
-use Rattle.mid_code.specs.Bounds.{pairs_of}
-use Rattle.mid_code.specs.Valid.{Valid}
+use Rattle.mid_blocks.specs.declared.code.MidFunction.{MidFunction}
+use Rattle.mid_blocks.specs.declared.code.Mid.{Mid}
+use Rattle.mid_blocks.specs.Bounds.{pairs_of}
+use Rattle.mid_blocks.specs.Valid.{Valid}
 use Rattle.frame_plan.specs.declared.numbers.Frames.{Frames}
 use Rattle.frame_plan.specs.Frames.{cell_address, global_cell, global_cells, cells, addresses, IsPlan, pointer, Cell, Element, InFrame, IsThere, stands_at, pairs_together, StandApart, HasRoom}
 

@@ -1,9 +1,9 @@
 -- Where the globals and the frames of calls stand in memory. Memory consists of cells of eight bytes, each of a master word and
 -- the shadow word four bytes above it; the globals have the first cells, and the stack those above.
 use Rattle.std.specs.Prelude.{◌≡◌, ◌<◌, ◌≤◌, ℕ, ◌+◌, ◌-◌, ◌*◌, ◌%◌, List, [], ◌∷◌, length, map, sum, take, drop, Some, slice_get, slice_index_or}
-use Rattle.mid_code.specs.declared.code.MidFunction.{MidFunction}
-use Rattle.mid_code.specs.declared.code.Mid.{Mid}
-use Rattle.mid_code.specs.Bounds.{pairs_of}
+use Rattle.mid_blocks.specs.declared.code.MidFunction.{MidFunction}
+use Rattle.mid_blocks.specs.declared.code.Mid.{Mid}
+use Rattle.mid_blocks.specs.Bounds.{pairs_of}
 use Rattle.frame_plan.specs.declared.numbers.Frames.{Frames}
 
 -- The address of a cell.

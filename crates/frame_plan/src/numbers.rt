@@ -1,11 +1,11 @@
 //! The numbers of a plan.
 
 ghost use Rattle.std.specs.Prelude.{◌≡◌, ◌≤◌, ◌+◌, ◌*◌, IfOk, All, map, sum, length};
-ghost use Rattle.mid_code.specs.Valid.{Valid};
+ghost use Rattle.mid_blocks.specs.Valid.{Valid};
 ghost use Rattle.frame_plan.specs.Frames.{addresses, IsPlan, HasRoom};
 
 use hard_words::{OutOfMemory, Words};
-use mid_code::{Mid, MidFunction};
+use mid_blocks::{Mid, MidFunction};
 use std::alloc::Global;
 
 /// The address of the first word of memory.

@@ -5,7 +5,8 @@ ghost use Rattle.std.specs.Option.{option_map};
 ghost use Rattle.hard_shelf.specs.Held.{held_by, taken_from, failures_of, calls_of, is_named, fails_next, counted, failures_after};
 ghost use Rattle.hard_shelf.specs.Outside.{SameNames, SameOthers, HoldsMore};
 
-use crate::{NeverFails, Shelf, ShelfError};
+use crate::never_fails::NeverFails;
+use crate::shelf::{Shelf, ShelfError};
 use hard_words::OutOfMemory;
 use std::alloc::Global;
 use std::collections::BTreeMap;

@@ -2,7 +2,7 @@
 
 ghost use Rattle.std.specs.Prelude.{◌≡◌, ◌≢◌, ◌+◌, ◌-◌, ◌≤◌, ◌↔◌, ◌++◌, ℕ, true, [], Some, None, IsTrue, length, IfOk, OnOk, OnErr, IsErr, vec_len, vec_capacity, if◌then◌else◌};
 
-use crate::{Sink, SinkFault};
+use crate::sink::{Sink, SinkFault};
 use hard_words::OutOfMemory;
 use std::alloc::Global;
 use std::collections::BTreeMap;

@@ -5,7 +5,7 @@ ghost use Rattle.std.specs.Option.{option_map};
 ghost use Rattle.hard_shelf.specs.Held.{kept_by, read_from};
 ghost use Rattle.hard_shelf.specs.Outside.{SameNames, SameOthers, HoldsMore};
 
-use crate::{Shelf, ShelfError};
+use crate::shelf::{Shelf, ShelfError};
 use hard_words::OutOfMemory;
 use std::alloc::Global;
 use std::collections::BTreeMap;

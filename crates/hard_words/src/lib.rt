@@ -1,5 +1,4 @@
-//! Words of 32 bits: their arithmetic, lists of them, a change of one step of a run, and the notion of two runs that are the
-//! same observed from outside.
+//! Words of 32 bits: their arithmetic, lists of them and of other items, and a change of one step of a run.
 //!
 //! A word is a `u32` with no sign of its own. The arithmetic is that of the MIPS I user instructions (Kane and Heinrich,
 //! *MIPS RISC Architecture*, appendix A): sums, differences and products modulo 2^32, products of 64 bits in two halves,
@@ -10,14 +9,14 @@
 
 mod arithmetic;
 mod list;
-mod same;
+mod sequence;
 
 pub use arithmetic::{
     add, divide, divide_signed, flip_bit, less, less_signed, mul, product, product_signed,
     shift_left, shift_right, shift_right_signed, sign16, sub,
 };
 pub use list::Words;
-pub use same::{same_reflexive, same_renamed, same_transitive, same_where_met};
+pub use sequence::Sequence;
 use std::alloc::{AllocError, AllocFailed};
 
 /// There was no memory. Each call that takes memory answers this, or a variant of this name, where none is left.

@@ -1,15 +1,1 @@
-pub mod Commands
-pub mod RefusalLines
-pub mod Failures
-pub mod Files
-pub mod Pairs
-pub mod Edges
-pub mod Tallies
-pub mod Outcomes
-pub mod Parts
-pub mod Loaded
-pub mod Passed
-pub mod Ready
-pub mod Summaries
 pub mod SelfRuns
-pub mod Seen

@@ -4,24 +4,24 @@ ghost use Rattle.std.specs.Prelude.{◌≡◌, ◌≤◌, ◌++◌, Some, IsTrue
 ghost use Rattle.fault_replay.specs.Show.{end_line};
 ghost use Rattle.hard_shelf.specs.Outside.{Rose};
 ghost use Rattle.program_maker.specs.Text.{made_text};
-ghost use Rattle.hardcc_core.specs.Commands.{SelfRun, self_image};
-ghost use Rattle.hardcc_core.specs.Parts.{Leaves, PutsAndSays, RefusesBytes, Writes};
+ghost use Rattle.tool_words.specs.Commands.{SelfRun, self_image};
+ghost use Rattle.tool_outcomes.specs.Parts.{Leaves, PutsAndSays, RefusesBytes, Writes};
 ghost use Rattle.hardcc_core.specs.SelfRuns.{IsSelfRun};
-ghost use Rattle.hardcc_core.specs.Summaries.{summary_lines};
-ghost use Rattle.hardcc_core.specs.Tallies.{outcome_line};
+ghost use Rattle.tool_outcomes.specs.Summaries.{summary_lines};
+ghost use Rattle.fault_campaign.specs.Tallies.{outcome_line};
 
-use crate::campaign_file::write_outcome;
-use crate::failure::{Failure, report, status_of_text};
-use crate::make_words::SelfRunWords;
-use compile_chain::{Refusal, compile};
+use compile_chain::compile;
+use compile_rules::Refusal;
 use elf_image::write_image;
-use fault_replay::end_line;
+use fault_replay::{Counted, count_outputs, end_line};
 use hard_shelf::{Shelf, ShelfError, Sink, SinkFault};
 use hard_words::OutOfMemory;
 use mips_machine::{End, Machine};
 use program_maker::make;
-use run_count::{Counted, count_outputs};
 use std::alloc::Global;
+use tool_commands::write_outcome;
+use tool_outcomes::{Failure, report, status_of_text};
+use tool_words::SelfRunWords;
 
 /// What is told of a source and of the run of its image.
 #[derive(Clone, Copy)]

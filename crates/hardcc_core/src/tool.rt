@@ -2,25 +2,22 @@
 
 ghost use Rattle.std.specs.Prelude.{◌≡◌, ◌⊎◌, ◌++◌, List, ℕ, None, IsTrue};
 ghost use Rattle.hard_shelf.specs.Outside.{Rose, SameNames, AppendsPart};
-ghost use Rattle.hardcc_core.specs.declared.failure.Failure.{Failure};
-ghost use Rattle.hardcc_core.specs.Commands.{command};
-ghost use Rattle.hardcc_core.specs.Failures.{status_of};
-ghost use Rattle.hardcc_core.specs.Outcomes.{Misses, Refuses, Accepts, IsAudit, IsEval, FailsAudit, Audited, Puts, Done, Says, IsRefusal};
+ghost use Rattle.tool_outcomes.specs.declared.failure.Failure.{Failure};
+ghost use Rattle.tool_words.specs.Commands.{command};
+ghost use Rattle.tool_outcomes.specs.Failures.{status_of};
+ghost use Rattle.tool_outcomes.specs.Outcomes.{Misses, Refuses, Accepts, IsAudit, IsEval, FailsAudit, Audited, Puts, Done, Says, IsRefusal};
 ghost use Rattle.run_audit.specs.declared.error.AuditError.{AuditError};
-ghost use Rattle.hardcc_core.specs.Parts.{Leaves};
+ghost use Rattle.tool_outcomes.specs.Parts.{Leaves};
 
-use crate::audit_file::audit_image;
-use crate::campaign_file::count_flips;
-use crate::command::{Command, command_of};
-use crate::compile_file::compile_file;
-use crate::eval_file::eval_source;
-use crate::failure::{USAGE, say};
-use crate::list_file::list_pairs;
-use crate::make_file::make_program;
-use crate::run_file::{run_changed, run_image};
 use crate::self_file::self_run;
 use hard_shelf::{Shelf, Sink};
 use std::alloc::Global;
+use tool_commands::{
+    audit_image, compile_file, count_flips, eval_source, list_pairs, make_program, run_changed,
+    run_image,
+};
+use tool_outcomes::{USAGE, say};
+use tool_words::{Command, command_of};
 
 /// Does what the words of the command line, the program's name left out, say, and answers a status.
 ///
@@ -89,8 +86,8 @@ pub fn run_tool<H: Shelf, O: Sink>(
         SameNames (H.held shelf.old) (H.held shelf.new) }
     ensures unless_accepted { IsTrue (H.tells shelf.old) → (Accepts (H.held shelf.old) (command words.now.items) → ⊥) →
         SameNames (H.held shelf.old) (H.held shelf.new) }
-    ensures put_unless_refused { result ≡ 8 → IsTrue (H.tells shelf.old) → SameNames (H.held shelf.old) (H.held shelf.new) ⊎
-        Done (H.held shelf.old) (H.held shelf.new) (command words.now.items) }
+    ensures put_where_accepted { result ≡ 8 → IsTrue (H.tells shelf.old) → Done (H.held shelf.old) (H.held shelf.new) (command words.now.items) ⊎
+        ((Accepts (H.held shelf.old) (command words.now.items) → ⊥) × SameNames (H.held shelf.old) (H.held shelf.new)) }
 
     // What stands in the sink.
     ensures said { (result ≡ 0) ⊎ (result ≡ 2) ⊎ IsRefusal result ⊎ (result ≡ 10) → IsTrue (H.tells shelf.old) → IsTrue (O.tells out.old) →

@@ -4,9 +4,9 @@ use Rattle.std.specs.Prelude.{Option, Some, None, ◌⊎◌, ◌==◌, ◌||◌,
 use Rattle.mips_isa.specs.declared.instr.Instr.{Instr}
 use Rattle.mips_isa.specs.declared.instr.Instr.TheVariants.{Break}
 use Rattle.mips_isa.specs.Machine.{text_place}
-use Rattle.mips_isa.specs.Text.{IsText, InText, At, instr_at, Reads, Writes, SkipsBreak, SkipsReport, BranchAt, branch_goal}
-use Rattle.mips_isa.specs.Blocks.{IsStart, jumped, called, taken, passed}
-use Rattle.harden_lint.specs.Typing.{IsSlot, Next, onward}
+use Rattle.mips_text.specs.Text.{IsText, InText, At, instr_at, Reads, Writes, SkipsBreak, SkipsReport, BranchAt, branch_goal}
+use Rattle.mips_text.specs.Blocks.{IsStart, jumped, called, taken, passed}
+use Rattle.mips_text.specs.Typing.{IsSlot, Next, onward}
 use Rattle.harden_lint.proofs.Places.{no_truth, in_text, goal_two, same_offset, SkipOr, skips, skips_none, skip_or, fork_of}
 use Rattle.harden_lint.proofs.Words.{next_text}
 use Rattle.lint_words.specs.Words.{code_of, skipped, in_words}

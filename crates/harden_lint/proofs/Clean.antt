@@ -10,17 +10,17 @@ use Rattle.mips_isa.specs.declared.instr.End.{End}
 use Rattle.mips_isa.specs.declared.instr.End.TheVariants.{Exception, Starved, Exited}
 use Rattle.mips_isa.specs.Machine.{State, reg, act, step, planned, perform, plus, place, is_jump, load, store, service, ended, in_memory, moved, with_reg, written, branch, break_end}
 use Rattle.mips_isa.specs.Locality.{IsGoing}
-use Rattle.mips_isa.specs.Beside.{IsCalm}
-use Rattle.mips_isa.specs.Text.{IsText, InText, At, BranchAt, SkipsReport, branch_goal, jump_goal}
-use Rattle.mips_isa.specs.Blocks.{IsStart, jumped, called, taken}
-use Rattle.mips_isa.specs.Faults.{IsPlaced}
-use Rattle.mips_isa.proofs.Locality.{going_jumps}
-use Rattle.harden_lint.specs.Typing.{IsSlot, Next, onward}
-use Rattle.harden_lint.specs.Forms.{InputAt}
+use Rattle.mips_faults.specs.Beside.{IsCalm}
+use Rattle.mips_text.specs.Text.{IsText, InText, At, BranchAt, SkipsReport, branch_goal, jump_goal}
+use Rattle.mips_text.specs.Blocks.{IsStart, jumped, called, taken}
+use Rattle.mips_faults.specs.Faults.{IsPlaced}
+use Rattle.mips_laws.proofs.Locality.{going_jumps}
+use Rattle.mips_text.specs.Typing.{IsSlot, Next, onward}
+use Rattle.mips_text.specs.Forms.{InputAt}
 use Rattle.harden_lint.specs.Rules.{WellTyped}
-use Rattle.two_runs.proofs.Fetch.{same_instr, Plans, does, stops, plans}
-use Rattle.two_runs.specs.Sorts.{Doomed, Behind}
-use Rattle.two_runs.proofs.Sorts.{done_step, stop_step}
+use Rattle.lint_lockstep.proofs.Fetch.{same_instr, Plans, does, stops, plans}
+use Rattle.lint_lockstep.specs.Sorts.{Doomed, Behind}
+use Rattle.lint_lockstep.proofs.Sorts.{done_step, stop_step}
 use Rattle.harden_lint.proofs.Places.{no_truth, in_text, report_or, plus_four, plus_eight, SkipOr, skips, skips_none, skip_or, fork_of, same_offset, goal_two}
 use Rattle.harden_lint.proofs.Words.{behind_at, slot_no_start, start_text}
 use Rattle.harden_lint.proofs.Services.{five_source, five_no_start}

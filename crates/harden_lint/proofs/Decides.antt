@@ -6,14 +6,14 @@ use Rattle.mips_isa.specs.declared.instr.Instr.TheVariants.{Break, J, Jal, Beq, 
 use Rattle.mips_isa.specs.Rows.{row, pair_of}
 use Rattle.mips_isa.proofs.Pairs.{reads_are, writes_are}
 use Rattle.mips_isa.specs.Machine.{IsPairOf, among, reads_of, writes_of, is_jump}
-use Rattle.mips_isa.specs.Text.{InText, At, instr_at, Reads, Writes, Uses, used_of, BranchAt, IsBranch, branch_goal, jump_goal}
-use Rattle.harden_lint.specs.Typing.{Role, master, shadow, signs, Of, Next, onward}
-use Rattle.harden_lint.specs.Forms.{OutputAt, ExitAt, InputAt, WordOf, output, exit, input}
+use Rattle.mips_text.specs.Text.{InText, At, instr_at, Reads, Writes, Uses, used_of, BranchAt, IsBranch, branch_goal, jump_goal}
+use Rattle.mips_text.specs.Typing.{Role, master, shadow, signs, Of, Next, onward}
+use Rattle.mips_text.specs.Forms.{OutputAt, ExitAt, InputAt, WordOf, output, exit, input}
 use Rattle.harden_lint.specs.Rules.{OneStream}
 use Rattle.harden_lint.proofs.Places.{no_truth, in_text}
 use Rattle.harden_lint.proofs.Words.{third}
 use Rattle.harden_lint.proofs.Keeps.{zero_free}
-use Rattle.two_runs.specs.Sorts.{Among}
+use Rattle.lint_lockstep.specs.Sorts.{Among}
 use Rattle.harden_lint.proofs.Streams.{to_among, from_among, joins_left, joins_right}
 use Rattle.lint_words.specs.Words.{code_of, skipped}
 use Rattle.lint_words.specs.Around.{reads_by, writes_by, uses_by, in_slot, reporting, is_some}

@@ -3,10 +3,10 @@ use Rattle.std.proofs.Common.{◌≡◌, ◌≢◌, ℕ, suc, ◌+◌, ◌-◌, 
 use Rattle.std.specs.Prelude.{Option, Some, None, ◌⊎◌, ◌==◌, ◌||◌, ◌&&◌, nat_lt, not, IsTrue}
 use Rattle.mips_isa.specs.declared.instr.Instr.{Instr}
 use Rattle.mips_isa.specs.Machine.{text_place}
-use Rattle.mips_isa.specs.Text.{IsText, InText, At, instr_at}
-use Rattle.mips_isa.specs.Blocks.{IsStart, Head, HeadAt}
-use Rattle.mips_isa.specs.Faults.{in_even, in_odd}
-use Rattle.harden_lint.specs.Typing.{IsSlot}
+use Rattle.mips_text.specs.Text.{IsText, InText, At, instr_at}
+use Rattle.mips_text.specs.Blocks.{IsStart, Head, HeadAt}
+use Rattle.mips_faults.specs.Faults.{in_even, in_odd}
+use Rattle.mips_text.specs.Typing.{IsSlot}
 use Rattle.harden_lint.specs.Rules.{FromOwn, HasInstruction, HasHead, KeepsStream, IsChecked, HasNoHazard, GoesInside, MovesHeld, KeepsSigns, KeepsForms, KeepsSlot, Obeys, WellTyped, Breaks, no_instruction, no_head, mixed, unchecked, hazard, outside, unheld, stray_sign, stray_service, bad_slot}
 use Rattle.harden_lint.proofs.Places.{no_truth, in_text}
 use Rattle.harden_lint.proofs.Words.{next_text}

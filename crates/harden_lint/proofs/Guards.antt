@@ -3,9 +3,9 @@ use Rattle.std.proofs.Common.{◌≡◌, ℕ, zero, suc, ◌+◌, ◌-◌, ◌*�
 use Rattle.std.specs.Prelude.{Option, Some, None, ◌⊎◌, ◌==◌, ◌||◌, ◌&&◌, nat_le, not}
 use Rattle.mips_isa.specs.declared.instr.Instr.{Instr}
 use Rattle.mips_isa.specs.declared.instr.Instr.TheVariants.{Jr, Syscall, Beq, Bne, Sw}
-use Rattle.mips_isa.specs.Text.{IsText, InText, At, instr_at, Writes, SkipsReport, BranchAt, Critical, base, operand, target, argument}
-use Rattle.mips_isa.specs.Blocks.{IsStart}
-use Rattle.harden_lint.specs.Typing.{Next, Path, first, then}
+use Rattle.mips_text.specs.Text.{IsText, InText, At, instr_at, Writes, SkipsReport, BranchAt, Critical, base, operand, target, argument}
+use Rattle.mips_text.specs.Blocks.{IsStart}
+use Rattle.mips_text.specs.Typing.{Next, Path, first, then}
 use Rattle.harden_lint.proofs.Places.{no_truth, in_text}
 use Rattle.harden_lint.proofs.Words.{next_text}
 use Rattle.lint_words.specs.Words.{skipped}

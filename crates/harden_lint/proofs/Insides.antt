@@ -7,7 +7,7 @@ use Rattle.mips_isa.specs.declared.instr.Instr.{Instr}
 use Rattle.mips_isa.specs.declared.instr.Instr.TheVariants.{Beq, Syscall}
 use Rattle.mips_isa.specs.Table.{decoded, IsInRange}
 use Rattle.mips_isa.specs.Machine.{text_place}
-use Rattle.mips_isa.specs.Text.{InText, At, checked, service, result, CheckWindow}
+use Rattle.mips_text.specs.Text.{InText, At, checked, service, result, CheckWindow}
 use Rattle.mips_isa.proofs.Inverse.{encodes_decoded}
 use Rattle.harden_lint.specs.Theorems.{WindowsInside}
 use Rattle.harden_lint.proofs.Places.{in_text}

@@ -2,10 +2,10 @@
 use Rattle.std.proofs.Common.{◌≡◌, ℕ, ◌+◌, ◌≤◌, arith, rules, refl, sym, ◌∙◌, subst, List, false, true, Bool, cond, inl, inr}
 use Rattle.std.specs.Prelude.{Option, Some, None, ◌⊎◌, ◌==◌, ◌||◌, ◌&&◌, nat_le, IsTrue}
 use Rattle.mips_isa.specs.declared.instr.Instr.{Instr}
-use Rattle.mips_isa.specs.Text.{IsText, InText, At, Writes, CheckWindow}
-use Rattle.mips_isa.specs.Blocks.{IsStart}
-use Rattle.mips_isa.specs.Faults.{in_even, in_odd}
-use Rattle.harden_lint.specs.Typing.{Role, master, shadow, signs, Of, CheckAt, Next, Path, first, then, IsGuarded, IsProductOf, ProductsOf}
+use Rattle.mips_text.specs.Text.{IsText, InText, At, Writes, CheckWindow}
+use Rattle.mips_text.specs.Blocks.{IsStart}
+use Rattle.mips_faults.specs.Faults.{in_even, in_odd}
+use Rattle.mips_text.specs.Typing.{Role, master, shadow, signs, Of, CheckAt, Next, Path, first, then, IsGuarded, IsProductOf, ProductsOf}
 use Rattle.harden_lint.specs.Rules.{WellTyped}
 use Rattle.harden_lint.proofs.Places.{no_truth}
 use Rattle.harden_lint.proofs.Words.{next_text}

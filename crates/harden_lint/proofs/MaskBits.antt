@@ -4,20 +4,20 @@ use Rattle.std.specs.Prelude.{Option, Some, None, ◌⊎◌, ◌==◌, ◌||◌,
 use Rattle.std.specs.Int.{bit_at}
 use Rattle.std.proofs.lemmas.Nat.Bits.{bit_at_or, bit_at-pow_same, bit_at-pow_other, bit_at-zero}
 use Rattle.std.proofs.lemmas.Grind.{common_steps}
-use Rattle.mips_isa.specs.Text.{IsText, InText}
-use Rattle.mips_isa.specs.Blocks.{IsStart}
+use Rattle.mips_text.specs.Text.{IsText, InText}
+use Rattle.mips_text.specs.Blocks.{IsStart}
 use Rattle.harden_lint.specs.declared.Stream.{Stream}
 use Rattle.harden_lint.specs.declared.Stream.TheVariants.{Master, Shadow, Nobody}
 use Rattle.harden_lint.specs.declared.TypingRow.{TypingRow}
 use Rattle.harden_lint.specs.Rows.{AreRows, Produces}
-use Rattle.harden_lint.specs.Typing.{Role, master, shadow, signs, role_of, Of, CheckAt}
+use Rattle.mips_text.specs.Typing.{Role, master, shadow, signs, role_of, Of, CheckAt}
 use Rattle.harden_lint.proofs.Places.{no_truth}
 use Rattle.harden_lint.specs.StartTable.{Table}
 use Rattle.lint_words.specs.Windows.{check_at, window_by, window, awaits, service_near, near}
 use Rattle.harden_lint.specs.StreamTests.{streams_by, guarded_from, guarded, product_by, products}
 use Rattle.harden_lint.specs.RuleTests.{product_at}
 use Rattle.mips_isa.specs.declared.instr.Instr.{Instr}
-use Rattle.mips_isa.specs.Text.{instr_at}
+use Rattle.mips_text.specs.Text.{instr_at}
 use Rattle.lint_words.specs.Around.{starts_at, near_before, far_before, leads}
 use Rattle.harden_lint.specs.Masks.{IsMask, IsGuardedMask, stream_of, RowFor, RowsTo}
 use Rattle.harden_lint.proofs.Around.{and_parts, and_both, or_parts, or_first, or_second, same_number, number_same}

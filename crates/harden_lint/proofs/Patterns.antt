@@ -3,9 +3,9 @@ use Rattle.std.proofs.Common.{◌≡◌, ℕ, ◌+◌, ◌-◌, ◌%◌, ◌≤�
 use Rattle.std.specs.Prelude.{Option, Some, None, ◌⊎◌, ◌==◌, ◌||◌, ◌&&◌, nat_le}
 use Rattle.mips_isa.specs.declared.instr.Instr.{Instr}
 use Rattle.mips_isa.specs.declared.instr.Instr.TheVariants.{Sll, Syscall, Break, Addu, Xor, Beq, Ori, Xori}
-use Rattle.mips_isa.specs.Text.{InText, At, instr_at}
-use Rattle.mips_isa.specs.Blocks.{IsStart, Head, HeadAt}
-use Rattle.harden_lint.specs.Forms.{OutputAt, ExitAt, InputAt, IsPair, plain, stack, link}
+use Rattle.mips_text.specs.Text.{InText, At, instr_at}
+use Rattle.mips_text.specs.Blocks.{IsStart, Head, HeadAt}
+use Rattle.mips_text.specs.Forms.{OutputAt, ExitAt, InputAt, IsPair, plain, stack, link}
 use Rattle.harden_lint.specs.Rules.{InHead}
 use Rattle.harden_lint.proofs.Places.{no_truth, in_text}
 use Rattle.lint_words.specs.Words.{code_of}

@@ -5,9 +5,9 @@ use Rattle.mips_isa.specs.declared.instr.Instr.{Instr}
 use Rattle.mips_isa.specs.declared.instr.Instr.TheVariants.{Break, Beq, Bne}
 use Rattle.mips_isa.specs.Table.{decoded}
 use Rattle.mips_isa.specs.Machine.{plus, text_place}
-use Rattle.mips_isa.specs.Text.{IsText, InText, At, instr_at, BranchAt, IsBranch, SkipsBreak, SkipsReport, branch_goal}
-use Rattle.mips_isa.specs.Blocks.{ForkAt}
-use Rattle.two_runs.proofs.Fetch.{same_instr}
+use Rattle.mips_text.specs.Text.{IsText, InText, At, instr_at, BranchAt, IsBranch, SkipsBreak, SkipsReport, branch_goal}
+use Rattle.mips_text.specs.Blocks.{ForkAt}
+use Rattle.lint_lockstep.proofs.Fetch.{same_instr}
 
 pub no_truth : false ≡ true → ⊥
 no_truth h = search (rules, h)

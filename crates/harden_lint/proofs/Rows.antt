@@ -6,16 +6,16 @@ use Rattle.mips_isa.specs.declared.instr.Instr.{Instr}
 use Rattle.mips_isa.specs.declared.instr.Instr.TheVariants.{Jr, Syscall, Break, Mfhi, Mflo, Addu, J, Jal, Beq, Bne, Ori, Lw, Sw}
 use Rattle.mips_isa.specs.Machine.{State, reg, act, perform, plus, place, among, writes_of, reads_of, is_product, is_jump}
 use Rattle.mips_isa.specs.Locality.{is_data, is_move}
-use Rattle.mips_isa.specs.Beside.{with_parts, SameKept, LoadsKept, IsCalm}
-use Rattle.mips_isa.specs.Text.{IsText, InText, At, used_of, BranchAt, SkipsReport, Critical, base, operand, target, argument}
-use Rattle.mips_isa.specs.Faults.{IsPlaced, Moves, in_even, in_odd}
-use Rattle.mips_isa.proofs.Locality.{reaches}
-use Rattle.harden_lint.specs.Typing.{Role, master, shadow, signs, Of, CheckAt, IsProductOf}
-use Rattle.harden_lint.specs.Forms.{InputAt, WordOf, output, exit, input, IsPair, plain, stack, link}
+use Rattle.mips_faults.specs.Beside.{with_parts, SameKept, LoadsKept, IsCalm}
+use Rattle.mips_text.specs.Text.{IsText, InText, At, used_of, BranchAt, SkipsReport, Critical, base, operand, target, argument}
+use Rattle.mips_faults.specs.Faults.{IsPlaced, Moves, in_even, in_odd}
+use Rattle.mips_laws.proofs.Locality.{reaches}
+use Rattle.mips_text.specs.Typing.{Role, master, shadow, signs, Of, CheckAt, IsProductOf}
+use Rattle.mips_text.specs.Forms.{InputAt, WordOf, output, exit, input, IsPair, plain, stack, link}
 use Rattle.harden_lint.specs.Rules.{WellTyped, OneStream, FromOwn, IsTaking}
-use Rattle.two_runs.proofs.Fetch.{same_instr}
-use Rattle.two_runs.specs.Sorts.{Behind}
-use Rattle.two_runs.specs.Sorts.{Sort, alike, wrong, takes, aside, halts, skips, Among}
+use Rattle.lint_lockstep.proofs.Fetch.{same_instr}
+use Rattle.lint_lockstep.specs.Sorts.{Behind}
+use Rattle.lint_lockstep.specs.Sorts.{Sort, alike, wrong, takes, aside, halts, skips, Among}
 use Rattle.harden_lint.proofs.Places.{no_truth, in_text, report_or, plus_four, plus_eight, same_offset}
 use Rattle.harden_lint.proofs.Words.{behind_at, third, fourth}
 use Rattle.harden_lint.proofs.Services.{serving, first, second, Given, word_at}

@@ -5,13 +5,13 @@ use Rattle.mips_isa.specs.declared.instr.Instr.{Instr}
 use Rattle.mips_isa.specs.declared.instr.Instr.TheVariants.{Sll, Jr, Syscall, Mfhi, Mflo, Xor, J, Jal, Xori, Lw, Sw}
 use Rattle.mips_isa.specs.Rows.{row, pair_of}
 use Rattle.mips_isa.specs.Machine.{is_jump, is_product}
-use Rattle.mips_isa.specs.Text.{IsText, InText, At, instr_at, Reads, Uses, IsBranch, Critical, base, operand, target, argument}
-use Rattle.mips_isa.specs.Blocks.{IsStart, Head, HeadAt}
-use Rattle.harden_lint.specs.Typing.{master, shadow, signs, Of, CheckAt, IsSlot, Next, onward, IsGuarded}
-use Rattle.harden_lint.specs.Forms.{OutputAt, ExitAt, InputAt, WordOf}
+use Rattle.mips_text.specs.Text.{IsText, InText, At, instr_at, Reads, Uses, IsBranch, Critical, base, operand, target, argument}
+use Rattle.mips_text.specs.Blocks.{IsStart, Head, HeadAt}
+use Rattle.mips_text.specs.Typing.{master, shadow, signs, Of, CheckAt, IsSlot, Next, onward, IsGuarded}
+use Rattle.mips_text.specs.Forms.{OutputAt, ExitAt, InputAt, WordOf}
 use Rattle.harden_lint.specs.Rules.{HasHead, InHead, IsCheck, OneStream, FromOwn, KeepsStream, IsTaking, IsChecked, MovesHalf, HasNoHazard, GoesInside, MovesHeld, KeepsSigns, KeepsForms, IsChoosing, KeepsSlot, Obeys}
 use Rattle.harden_lint.proofs.Places.{no_truth, in_text}
-use Rattle.two_runs.proofs.Fetch.{same_instr}
+use Rattle.lint_lockstep.proofs.Fetch.{same_instr}
 use Rattle.harden_lint.proofs.Words.{next_text}
 use Rattle.harden_lint.specs.StartTable.{Table}
 use Rattle.lint_words.specs.Around.{starts_at, reads_by, uses_by, jumps_by, in_slot, near_before, far_before}

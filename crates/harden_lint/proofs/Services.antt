@@ -3,12 +3,12 @@ use Rattle.std.proofs.Common.{◌≡◌, ◌≢◌, ℕ, suc, ◌+◌, ◌*◌, 
 use Rattle.std.specs.Prelude.{◌⊎◌}
 use Rattle.mips_isa.specs.declared.instr.Instr.{Instr}
 use Rattle.mips_isa.specs.declared.instr.Instr.TheVariants.{Syscall, Break, Addu, Beq, Bne, Ori}
-use Rattle.mips_isa.specs.Text.{IsText, At, IsBranch, SkipsBreak, Writes}
-use Rattle.mips_isa.specs.Blocks.{IsStart}
-use Rattle.harden_lint.specs.Typing.{Role, shadow, Next}
-use Rattle.harden_lint.specs.Forms.{InputAt, WordOf, output, exit, input}
+use Rattle.mips_text.specs.Text.{IsText, At, IsBranch, SkipsBreak, Writes}
+use Rattle.mips_text.specs.Blocks.{IsStart}
+use Rattle.mips_text.specs.Typing.{Role, shadow, Next}
+use Rattle.mips_text.specs.Forms.{InputAt, WordOf, output, exit, input}
 use Rattle.harden_lint.specs.Rules.{WellTyped}
-use Rattle.two_runs.proofs.Fetch.{same_instr}
+use Rattle.lint_lockstep.proofs.Fetch.{same_instr}
 use Rattle.harden_lint.proofs.Words.{Before, straight, skipped, fallen, before_of, form_no_start, third, fourth}
 
 -- where register 2 is kept, whichever stream is wrong; at the second move of an input it is not where the shadow is

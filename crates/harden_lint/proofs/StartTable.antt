@@ -5,8 +5,8 @@ use Rattle.std.proofs.lemmas.Grind.{common_steps}
 use Rattle.mips_isa.specs.declared.instr.Instr.{Instr}
 use Rattle.mips_isa.specs.declared.instr.Instr.TheVariants.{Break, J, Jal, Beq, Bne}
 use Rattle.mips_isa.specs.Machine.{text_place}
-use Rattle.mips_isa.specs.Text.{InText, At, instr_at, BranchAt, IsBranch, SkipsBreak, branch_goal, jump_goal}
-use Rattle.mips_isa.specs.Blocks.{ForkAt, IsStart, begins, jumped, called, returned, taken, passed}
+use Rattle.mips_text.specs.Text.{InText, At, instr_at, BranchAt, IsBranch, SkipsBreak, branch_goal, jump_goal}
+use Rattle.mips_text.specs.Blocks.{ForkAt, IsStart, begins, jumped, called, returned, taken, passed}
 use Rattle.harden_lint.proofs.Places.{no_truth, in_text}
 use Rattle.lint_words.specs.Words.{code_of, offset_of, skips_by, skipped, fork_starts, starts_of, made, in_words}
 use Rattle.harden_lint.specs.StartTable.{marked, lower, left_out, marked_if, left_if}

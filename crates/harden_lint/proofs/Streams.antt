@@ -9,12 +9,12 @@ use Rattle.mips_isa.specs.declared.instr.Act.TheVariants.{Write, Move, Both, Loa
 use Rattle.mips_isa.specs.declared.instr.End.TheVariants.{Exception}
 use Rattle.mips_isa.specs.Machine.{State, reg, plus, place, among, load, store, in_memory, ended, moved, with_reg}
 use Rattle.mips_isa.specs.Locality.{Reaches}
-use Rattle.mips_isa.specs.Beside.{LoadsKept, IsCalm}
-use Rattle.mips_isa.specs.Text.{InText, At, used_of}
-use Rattle.harden_lint.specs.Typing.{Role, master, shadow, signs, Of}
+use Rattle.mips_faults.specs.Beside.{LoadsKept, IsCalm}
+use Rattle.mips_text.specs.Text.{InText, At, used_of}
+use Rattle.mips_text.specs.Typing.{Role, master, shadow, signs, Of}
 use Rattle.harden_lint.specs.Rules.{InHead, OneStream}
-use Rattle.two_runs.proofs.Fetch.{same_instr}
-use Rattle.two_runs.specs.Sorts.{AllOf, Among}
+use Rattle.lint_lockstep.proofs.Fetch.{same_instr}
+use Rattle.lint_lockstep.specs.Sorts.{AllOf, Among}
 use Rattle.harden_lint.proofs.Places.{no_truth, in_text}
 
 -- registers of a list

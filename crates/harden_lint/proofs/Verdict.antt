@@ -1,13 +1,13 @@
 -- Each text has typing rows or breaks a rule: by the tests of its words, one after the other, over the table of its starts.
 use Rattle.std.proofs.Common.{◌≡◌, ◌≢◌, ◌⊎◌, inl, inr, ℕ, zero, suc, ◌+◌, ◌*◌, ◌^◌, ◌≤◌, ◌<◌, arith, refl, subst, List, [], ◌∷◌, ◌++◌, length, Bool, true, false, add-one}
 use Rattle.std.specs.Prelude.{Option, Some, None, bit_or, replicate}
-use Rattle.mips_isa.specs.Text.{IsText, InText}
-use Rattle.mips_isa.specs.Blocks.{IsStart}
+use Rattle.mips_text.specs.Text.{IsText, InText}
+use Rattle.mips_text.specs.Blocks.{IsStart}
 use Rattle.lint_words.specs.Words.{made}
 use Rattle.lint_words.specs.Around.{in_slot}
 use Rattle.harden_lint.specs.declared.TypingRow.{TypingRow}
 use Rattle.harden_lint.specs.declared.Stream.{Stream}
-use Rattle.harden_lint.specs.Typing.{master, shadow}
+use Rattle.mips_text.specs.Typing.{master, shadow}
 use Rattle.harden_lint.specs.Rules.{WellTyped}
 use Rattle.harden_lint.specs.Rows.{master_mask, shadow_mask, signs_mask}
 use Rattle.harden_lint.specs.RuleTests.{first_rule}

@@ -9,20 +9,20 @@ use Rattle.mips_isa.specs.declared.instr.End.TheVariants.{Reported}
 use Rattle.mips_isa.specs.Machine.{State, reg, plus, place, text_place}
 use Rattle.mips_isa.specs.Runs.{Ran, run}
 use Rattle.mips_isa.specs.Image.{ImageFields, boot_state}
-use Rattle.mips_isa.specs.Text.{IsText, InText, At, Near, checked, service, result}
-use Rattle.mips_isa.specs.Blocks.{begins}
-use Rattle.mips_isa.specs.Faults.{Unseen, Told, IsPlaced, PlacedFor, UnreportedFor, IsSet, IsDetected, image_run}
+use Rattle.mips_text.specs.Text.{IsText, InText, At, Near, checked, service, result}
+use Rattle.mips_text.specs.Blocks.{begins}
+use Rattle.mips_faults.specs.Faults.{Unseen, Told, IsPlaced, PlacedFor, UnreportedFor, IsSet, IsDetected, image_run}
 use Rattle.harden_lint.specs.declared.Stream.{Stream}
 use Rattle.harden_lint.specs.declared.Stream.TheVariants.{Master, Shadow, Nobody}
 use Rattle.harden_lint.specs.declared.TypingRow.{TypingRow}
-use Rattle.harden_lint.specs.Typing.{Role, master, shadow, signs, role_of, Of, ProductsOf, IsProductOf}
+use Rattle.mips_text.specs.Typing.{Role, master, shadow, signs, role_of, Of, ProductsOf, IsProductOf}
 use Rattle.harden_lint.specs.Rules.{WellTyped}
 use Rattle.harden_lint.specs.Rows.{Typed, AreRows, IsRow, row_at, Produces}
 use Rattle.harden_lint.specs.Theorems.{IsFree, ShowsWithin, Shows, ShowsFlipWithin, ShowsFlip}
-use Rattle.mips_isa.proofs.Runs.{flip_is_set}
-use Rattle.two_runs.proofs.Fetch.{same_instr}
-use Rattle.two_runs.specs.Law.{Guide, FreeAt}
-use Rattle.two_runs.proofs.Stages.{two_runs}
+use Rattle.mips_laws.proofs.Runs.{flip_is_set}
+use Rattle.lint_lockstep.proofs.Fetch.{same_instr}
+use Rattle.lint_lockstep.specs.Law.{Guide, FreeAt}
+use Rattle.lint_lockstep.proofs.Stages.{two_runs}
 use Rattle.harden_lint.proofs.Places.{plus_four}
 use Rattle.harden_lint.proofs.Words.{start_text, slot_no_start}
 use Rattle.harden_lint.proofs.Services.{Due, serving, first, second, five_no_start}

@@ -5,9 +5,9 @@ use Rattle.mips_isa.specs.declared.instr.Instr.{Instr}
 use Rattle.mips_isa.specs.declared.instr.Instr.TheVariants.{Syscall, Break, Mult, Multu, Div, Divu, Beq}
 use Rattle.mips_isa.specs.Rows.{row, pair_of}
 use Rattle.mips_isa.specs.Machine.{among, reads_of, is_product}
-use Rattle.mips_isa.specs.Text.{IsText, InText, At, instr_at, CheckWindow, Near, checked, service, result}
-use Rattle.mips_isa.specs.Blocks.{IsStart}
-use Rattle.harden_lint.specs.Typing.{Role, master, shadow, signs, role_of, Of, CheckAt, Next, Path, IsGuarded, IsProductOf, ProductsOf}
+use Rattle.mips_text.specs.Text.{IsText, InText, At, instr_at, CheckWindow, Near, checked, service, result}
+use Rattle.mips_text.specs.Blocks.{IsStart}
+use Rattle.mips_text.specs.Typing.{Role, master, shadow, signs, role_of, Of, CheckAt, Next, Path, IsGuarded, IsProductOf, ProductsOf}
 use Rattle.harden_lint.proofs.Places.{no_truth, in_text}
 use Rattle.harden_lint.proofs.Keeps.{zero_free, one_role}
 use Rattle.harden_lint.proofs.Streams.{to_among, from_among}

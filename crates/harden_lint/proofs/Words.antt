@@ -4,12 +4,12 @@ use Rattle.std.specs.Prelude.{◌⊎◌}
 use Rattle.mips_isa.specs.declared.instr.Instr.{Instr}
 use Rattle.mips_isa.specs.declared.instr.Instr.TheVariants.{Sll, Break, Ori}
 use Rattle.mips_isa.specs.Machine.{is_jump}
-use Rattle.mips_isa.specs.Text.{IsText, InText, At, BranchAt, IsBranch, SkipsBreak, SkipsReport, branch_goal}
-use Rattle.mips_isa.specs.Blocks.{IsStart, jumped, called, taken, passed, Head, HeadAt}
-use Rattle.harden_lint.specs.Typing.{IsSlot, Next, onward}
-use Rattle.harden_lint.specs.Forms.{WordOf}
+use Rattle.mips_text.specs.Text.{IsText, InText, At, BranchAt, IsBranch, SkipsBreak, SkipsReport, branch_goal}
+use Rattle.mips_text.specs.Blocks.{IsStart, jumped, called, taken, passed, Head, HeadAt}
+use Rattle.mips_text.specs.Typing.{IsSlot, Next, onward}
+use Rattle.mips_text.specs.Forms.{WordOf}
 use Rattle.harden_lint.specs.Rules.{WellTyped, IsChoosing}
-use Rattle.two_runs.specs.Sorts.{IsPlain, Behind}
+use Rattle.lint_lockstep.specs.Sorts.{IsPlain, Behind}
 use Rattle.harden_lint.proofs.Places.{in_text, goal_two, same_offset, SkipOr, skips, skips_none, skip_or, fork_of}
 
 -- which word may come before one that is no start

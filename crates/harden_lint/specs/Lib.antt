@@ -1,5 +1,3 @@
-pub mod Typing
-pub mod Forms
 pub mod Rules
 pub mod Rows
 pub mod Theorems

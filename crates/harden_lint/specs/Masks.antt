@@ -1,7 +1,7 @@
 -- The mask of the guarded registers, and rows for any table of starts. This file serves private contracts alone.
 use Rattle.std.specs.Prelude.{◌≡◌, ◌<◌, ℕ, ◌+◌, ◌*◌, Bool, true, false, Option, List, length, ◌↔◌}
 use Rattle.std.specs.Int.{bit_at}
-use Rattle.mips_isa.specs.Blocks.{IsStart}
+use Rattle.mips_text.specs.Blocks.{IsStart}
 use Rattle.harden_lint.specs.declared.Stream.{Stream}
 use Rattle.harden_lint.specs.declared.Stream.TheVariants.{Master, Shadow, Nobody}
 use Rattle.harden_lint.specs.declared.TypingRow.{TypingRow}

@@ -1,7 +1,7 @@
 -- What the pass over the words finds, and what the lint answers. This file serves private contracts alone.
 use Rattle.std.specs.Prelude.{◌≤◌, ◌<◌, ℕ, ◌+◌, ◌*◌, ◌&&◌, nat_lt, Bool, if◌then◌else◌, Option, Some, None, List, length}
 use Rattle.mips_isa.specs.Machine.{text_place}
-use Rattle.mips_isa.specs.Text.{InText}
+use Rattle.mips_text.specs.Text.{InText}
 use Rattle.harden_lint.specs.Rules.{Obeys, WellTyped, Breaks, BadAt}
 
 -- The words below a place obey the rules.

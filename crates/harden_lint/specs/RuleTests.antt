@@ -5,9 +5,9 @@ use Rattle.mips_isa.specs.declared.instr.Instr.{Instr}
 use Rattle.mips_isa.specs.declared.instr.Instr.TheVariants.{Mfhi, Mflo, J, Jal, Beq, Bne, Lw, Sw}
 use Rattle.mips_isa.specs.Rows.{row, pair_of}
 use Rattle.mips_isa.specs.Machine.{is_product}
-use Rattle.mips_isa.specs.Text.{instr_at, branch_goal, jump_goal}
-use Rattle.mips_isa.specs.Faults.{in_even, in_odd}
-use Rattle.harden_lint.specs.Typing.{Role, master, shadow, signs}
+use Rattle.mips_text.specs.Text.{instr_at, branch_goal, jump_goal}
+use Rattle.mips_faults.specs.Faults.{in_even, in_odd}
+use Rattle.mips_text.specs.Typing.{Role, master, shadow, signs}
 use Rattle.lint_words.specs.Words.{code_of, skipped, in_words}
 use Rattle.lint_words.specs.Around.{starts_at, reads_by, uses_by, jumps_by, in_slot, reporting, is_some, near_before, far_before}
 use Rattle.lint_words.specs.Windows.{critical, check_at}

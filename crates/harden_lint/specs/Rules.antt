@@ -4,11 +4,11 @@ use Rattle.std.specs.Prelude.{◌≡◌, ◌≤◌, ◌<◌, ℕ, ◌+◌, ◌||
 use Rattle.mips_isa.specs.declared.instr.Instr.{Instr}
 use Rattle.mips_isa.specs.declared.instr.Instr.TheVariants.{Sll, Mfhi, Mflo, Lw, Sw}
 use Rattle.mips_isa.specs.Machine.{among, is_jump, is_product}
-use Rattle.mips_isa.specs.Text.{InText, At, Reads, Uses, used_of, Critical}
-use Rattle.mips_isa.specs.Blocks.{IsStart, Head, HeadAt}
-use Rattle.mips_isa.specs.Faults.{in_even, in_odd}
-use Rattle.harden_lint.specs.Typing.{Role, master, shadow, signs, Of, CheckAt, IsSlot, Next, IsGuarded, ProductsOf}
-use Rattle.harden_lint.specs.Forms.{OutputAt, ExitAt, InputAt, WordOf}
+use Rattle.mips_text.specs.Text.{InText, At, Reads, Uses, used_of, Critical}
+use Rattle.mips_text.specs.Blocks.{IsStart, Head, HeadAt}
+use Rattle.mips_faults.specs.Faults.{in_even, in_odd}
+use Rattle.mips_text.specs.Typing.{Role, master, shadow, signs, Of, CheckAt, IsSlot, Next, IsGuarded, ProductsOf}
+use Rattle.mips_text.specs.Forms.{OutputAt, ExitAt, InputAt, WordOf}
 
 -- 1. A word of the text is an instruction.
 abbrev pub HasInstruction : List ℕ → ℕ → Type 0

@@ -1,7 +1,7 @@
 -- The table of the starts of a text. This file serves private contracts alone; Blocks.antt has the definition of a start.
 use Rattle.std.specs.Prelude.{◌≡◌, ◌≤◌, ◌<◌, ℕ, ◌+◌, ◌*◌, nat_lt, Bool, true, false, if◌then◌else◌, Option, Some, None, List, length, get_or, slice_set, ◌⊎◌}
 use Rattle.mips_isa.specs.Machine.{text_place}
-use Rattle.mips_isa.specs.Text.{InText}
+use Rattle.mips_text.specs.Text.{InText}
 use Rattle.lint_words.specs.Words.{made, in_words}
 
 -- A table of some addresses: a bit for each word of the text, and the lowest of them outside the text.

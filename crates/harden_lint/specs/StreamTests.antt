@@ -4,8 +4,8 @@ use Rattle.std.specs.Prelude.{ℕ, ◌-◌, ◌&&◌, ◌||◌, not, Bool, true,
 use Rattle.mips_isa.specs.declared.instr.Instr.{Instr}
 use Rattle.mips_isa.specs.Rows.{row, pair_of}
 use Rattle.mips_isa.specs.Machine.{is_product}
-use Rattle.mips_isa.specs.Text.{instr_at}
-use Rattle.harden_lint.specs.Typing.{Role, master, shadow, signs, role_of}
+use Rattle.mips_text.specs.Text.{instr_at}
+use Rattle.mips_text.specs.Typing.{Role, master, shadow, signs, role_of}
 use Rattle.lint_words.specs.Around.{starts_at, near_before, far_before, leads}
 use Rattle.lint_words.specs.Windows.{check_at, window}
 

@@ -7,9 +7,9 @@ use Rattle.hard_words.specs.declared.SetPlace.TheVariants.{Reg}
 use Rattle.mips_isa.specs.declared.instr.Instr.{Instr}
 use Rattle.mips_isa.specs.Machine.{is_jump}
 use Rattle.mips_isa.specs.Image.{ImageFields}
-use Rattle.mips_isa.specs.Text.{IsText, InText, At, Near}
-use Rattle.mips_isa.specs.Blocks.{IsStart, InSpan, Succ, IsAlias}
-use Rattle.mips_isa.specs.Faults.{image_run, Unseen, Told, IsSet, IsDetected, Detects, Caught, PlacedFor, Placed, UnreportedFor, Unreported}
+use Rattle.mips_text.specs.Text.{IsText, InText, At, Near}
+use Rattle.mips_text.specs.Blocks.{IsStart, InSpan, Succ, IsAlias}
+use Rattle.mips_faults.specs.Faults.{image_run, Unseen, Told, IsSet, IsDetected, Detects, Caught, PlacedFor, Placed, UnreportedFor, Unreported}
 use Rattle.harden_lint.specs.declared.TypingRow.{TypingRow}
 use Rattle.harden_lint.specs.Rows.{Typed}
 

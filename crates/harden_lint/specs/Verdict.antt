@@ -1,6 +1,6 @@
 -- What the lint may find: of each text there are typing rows, or a lowest address at which a rule is broken, and never both.
 use Rattle.std.specs.Prelude.{ℕ, List, ◌⊎◌}
-use Rattle.mips_isa.specs.Text.{IsText}
+use Rattle.mips_text.specs.Text.{IsText}
 use Rattle.harden_lint.specs.declared.TypingRow.{TypingRow}
 use Rattle.harden_lint.specs.Rows.{Typed}
 use Rattle.harden_lint.specs.Rules.{BadAt}

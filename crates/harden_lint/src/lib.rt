@@ -15,7 +15,7 @@ mod pass;
 mod roles;
 mod rules;
 mod starts;
-mod table;
+pub mod table;
 
 pub use error::LintError;
 pub use laws::{shows, shows_flip, shows_flip_within, shows_within, typed_or_bad, windows_inside};

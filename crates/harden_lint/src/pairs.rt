@@ -1,7 +1,7 @@
 //! Which registers have a window at a word.
 ghost use Rattle.std.specs.Prelude.{◌≡◌, ◌≤◌, ◌<◌, ◌%◌, ◌^◌, ◌==◌, ◌&&◌, ◌↔◌, ℕ};
 ghost use Rattle.std.specs.Int.{bit_at};
-ghost use Rattle.mips_isa.specs.Text.{Near};
+ghost use Rattle.mips_text.specs.Text.{Near};
 ghost use Rattle.lint_words.specs.Windows.{window};
 ghost use Rattle.harden_lint.specs.Masks.{IsMask};
 

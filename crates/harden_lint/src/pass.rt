@@ -1,17 +1,18 @@
 //! The lint of a whole text.
 ghost use Rattle.std.specs.Prelude.{◌≡◌, ◌<◌, ◌≤◌, ℕ, List, IfOk, IsErrOf, Option};
 ghost use Rattle.harden_lint.specs.declared.TypingRow.{TypingRow};
-ghost use Rattle.mips_isa.specs.Text.{IsText};
-ghost use Rattle.mips_isa.specs.Blocks.{IsStart};
+ghost use Rattle.mips_text.specs.Text.{IsText};
+ghost use Rattle.mips_text.specs.Blocks.{IsStart};
 ghost use Rattle.harden_lint.specs.Rows.{Typed};
 ghost use Rattle.harden_lint.specs.Rules.{BadAt};
 ghost use Rattle.harden_lint.specs.Outcome.{Scanned, Decided, with_slot, with_start, outside_of, before_of, outcome};
 ghost use Rattle.harden_lint.specs.StartTable.{Table};
 
+use crate::error::LintError;
 use crate::rules::first_rule;
 use crate::starts::{Starts, find_starts};
 use crate::table::make_rows;
-use crate::{LintError, Typing, TypingRows};
+use crate::{Typing, TypingRows};
 use lint_words::{TEXT_START, WordTable, in_slot};
 use std::alloc::Global;
 

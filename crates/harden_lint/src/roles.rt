@@ -1,6 +1,6 @@
 //! The streams of registers, and which registers are guarded at a word.
 ghost use Rattle.std.specs.Prelude.{◌≡◌, ◌≤◌, ◌<◌};
-ghost use Rattle.harden_lint.specs.Typing.{master, shadow, signs};
+ghost use Rattle.mips_text.specs.Typing.{master, shadow, signs};
 ghost use Rattle.harden_lint.specs.StreamTests.{of, two_streams, streams_by, guarded_from, guarded};
 
 use lint_words::{WordTable, check_at, leads, window};

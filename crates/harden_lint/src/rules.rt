@@ -1,8 +1,8 @@
 //! The ten rules at one word.
 ghost use Rattle.std.specs.Prelude.{◌≡◌, ◌≤◌, IfSome};
 ghost use Rattle.mips_isa.specs.Table.{IsInRange};
-ghost use Rattle.mips_isa.specs.Faults.{in_even, in_odd};
-ghost use Rattle.harden_lint.specs.Typing.{master, shadow, signs, role_of};
+ghost use Rattle.mips_faults.specs.Faults.{in_even, in_odd};
+ghost use Rattle.mips_text.specs.Typing.{master, shadow, signs, role_of};
 ghost use Rattle.harden_lint.specs.StreamTests.{fits_role, product_pair, product_by, products};
 ghost use Rattle.harden_lint.specs.RuleTests.{goal_of, is_branch, first_next, second_next, is_instr, keeps_pair, one_stream, half_of, half_kept, rule_2, rule_3, operand_kept, operands_kept, rule_4, loaded, clear_of, load_kept, is_half, moves_before, moves_twice, product_at, rule_5, inside_by, rule_6, held, signs_pair, uses_signs, rule_8, rule_9, choosing, rule_10, first_rule};
 

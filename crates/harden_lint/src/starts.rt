@@ -1,7 +1,7 @@
 //! The starts of a text, as a table of its words.
 ghost use Rattle.std.specs.Prelude.{◌≡◌, IfOk};
-ghost use Rattle.mips_isa.specs.Text.{IsText};
-ghost use Rattle.mips_isa.specs.Blocks.{IsStart};
+ghost use Rattle.mips_text.specs.Text.{IsText};
+ghost use Rattle.mips_text.specs.Blocks.{IsStart};
 ghost use Rattle.harden_lint.specs.StartTable.{Table, marked, lower, left_out, marked_if, left_if};
 
 use hard_words::OutOfMemory;

@@ -1,8 +1,8 @@
 //! The rows of a text.
 ghost use Rattle.std.specs.Prelude.{◌≡◌, ◌≤◌, ◌<◌, ◌-◌, ◌||◌, length, IfOk};
-ghost use Rattle.mips_isa.specs.Text.{IsText, InText, instr_at};
+ghost use Rattle.mips_text.specs.Text.{IsText, InText, instr_at};
 ghost use Rattle.harden_lint.specs.Masks.{IsMask, IsGuardedMask, stream_of, RowFor, RowsTo};
-ghost use Rattle.harden_lint.specs.Typing.{master, shadow};
+ghost use Rattle.mips_text.specs.Typing.{master, shadow};
 ghost use Rattle.harden_lint.specs.StreamTests.{guarded_from, products};
 ghost use Rattle.harden_lint.specs.RuleTests.{product_at};
 

@@ -12,16 +12,16 @@ use Rattle.mips_isa.specs.declared.instr.End.TheVariants.{Trapped, Reported, Exc
 use Rattle.mips_isa.specs.Table.{IsInRange}
 use Rattle.mips_isa.specs.Machine.{State, reg, plus, perform, act, checked, fits_signed, break_end, is_jump, is_product, among, reads_of, writes_of, row_act}
 use Rattle.mips_isa.specs.Locality.{Agree, Puts}
-use Rattle.mips_isa.proofs.Locality.{same_act, puts}
-use Rattle.hard_code.specs.declared.code.Fix.{Fix}
-use Rattle.hard_code.specs.declared.code.Fix.TheVariants.{Plain, Block, Function, ReturnHigh, ReturnLow}
-use Rattle.hard_code.specs.declared.code.Item.{Item}
-use Rattle.hard_code.specs.declared.code.HardProgram.{HardProgram}
-use Rattle.hard_code.specs.Streams.{touched}
-use Rattle.hard_code.specs.Run.{Data, machine_of, held, numbered, value_of, Onward, way_of}
-use Rattle.hard_code.specs.Forms.{Each}
-use Rattle.hard_code.specs.Counts.{loaded, quiet_after, is_break, may_stand}
-use Rattle.hard_code.specs.Rules.{Reads}
+use Rattle.mips_laws.proofs.Locality.{same_act, puts}
+use Rattle.hard_items.specs.declared.code.Fix.{Fix}
+use Rattle.hard_items.specs.declared.code.Fix.TheVariants.{Plain, Block, Function, ReturnHigh, ReturnLow}
+use Rattle.hard_items.specs.declared.code.Item.{Item}
+use Rattle.hard_items.specs.declared.code.HardProgram.{HardProgram}
+use Rattle.hard_items.specs.Streams.{touched}
+use Rattle.hard_items.specs.Run.{Data, machine_of, held, numbered, value_of, Onward, way_of}
+use Rattle.hard_items.specs.Forms.{Each}
+use Rattle.hard_items.specs.Counts.{loaded, quiet_after, is_break, may_stand}
+use Rattle.hard_items.specs.Rules.{Reads}
 use Rattle.layout_law.specs.Layout.{filled}
 use Rattle.layout_law.specs.Level.{worth, SameData, SameEnd}
 use Rattle.layout_law.proofs.Data.{Alike, MayWrite, last_of, quiet_of}

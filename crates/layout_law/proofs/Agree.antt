@@ -4,18 +4,18 @@ use Rattle.std.specs.Prelude.{Option, Some, None, ◌⊎◌, slice_get, Contains
 use Rattle.std.proofs.lemmas.Option.{get_or_from_slice_get, slice_get-get_or, slice_get_within}
 use Rattle.std.proofs.lemmas.List.Elements.{All-contains}
 use Rattle.mips_isa.specs.declared.instr.Instr.TheVariants.{Beq, Bne}
-use Rattle.hard_code.specs.declared.code.Fix.{Fix}
-use Rattle.hard_code.specs.declared.code.Fix.TheVariants.{Block}
-use Rattle.mips_isa.specs.Blocks.{carried}
-use Rattle.mips_isa.specs.Blocks as Blocks
-use Rattle.hard_code.specs.declared.code.Item.{Item}
-use Rattle.hard_code.specs.declared.code.HardBlock.{HardBlock}
-use Rattle.hard_code.specs.declared.code.HardProgram.{HardProgram}
-use Rattle.hard_code.specs.declared.code.Mark.{Mark}
-use Rattle.hard_code.specs.declared.code.Signed.{Signed}
-use Rattle.hard_code.specs.Run.{items_of, block_items}
-use Rattle.hard_code.specs.Ways.{Holds, MayFollow, jumped, branched_eq, branched_ne, fallen_eq, fallen_ne, called, returned}
-use Rattle.hard_code.specs.WellFormed.{WellFormed, ItemAt, NamesThere}
+use Rattle.hard_items.specs.declared.code.Fix.{Fix}
+use Rattle.hard_items.specs.declared.code.Fix.TheVariants.{Block}
+use Rattle.mips_text.specs.Blocks.{carried}
+use Rattle.mips_text.specs.Blocks as Blocks
+use Rattle.hard_items.specs.declared.code.Item.{Item}
+use Rattle.hard_items.specs.declared.code.HardBlock.{HardBlock}
+use Rattle.hard_items.specs.declared.code.HardProgram.{HardProgram}
+use Rattle.hard_items.specs.declared.code.Mark.{Mark}
+use Rattle.hard_items.specs.declared.code.Signed.{Signed}
+use Rattle.hard_items.specs.Run.{items_of, block_items}
+use Rattle.hard_items.specs.Ways.{Holds, MayFollow, jumped, branched_eq, branched_ne, fallen_eq, fallen_ne, called, returned}
+use Rattle.hard_items.specs.WellFormed.{WellFormed, ItemAt, NamesThere}
 use Rattle.sign_law.specs.Graph.{IsSucc}
 use Rattle.sign_law.specs.Signs.{head_at}
 use Rattle.sign_law.specs.Marks.{successors_of, head_of, HasSigns}
@@ -135,9 +135,9 @@ signing s l g = record { well_formed = l.well_formed; formed = l.formed; agree =
     none (k ∷ ks) zero h = absurd (omega arith)
     none (k ∷ ks) (suc b) h = none ks b (omega arith)
 
-    clean : (b : ℕ) → (b < length s.program.blocks) ⊎ (length s.program.blocks ≤ b) → Rattle.hard_code.specs.Forms.Each (λ (i : Item). Rattle.hard_code.specs.Forms.Each (λ (r : ℕ). Rattle.layout_law.specs.Signs.is_sign r ≡ false) (Rattle.hard_code.specs.Streams.touched i.instr)) (items_of s.program b)
+    clean : (b : ℕ) → (b < length s.program.blocks) ⊎ (length s.program.blocks ≤ b) → Rattle.hard_items.specs.Forms.Each (λ (i : Item). Rattle.hard_items.specs.Forms.Each (λ (r : ℕ). Rattle.layout_law.specs.Signs.is_sign r ≡ false) (Rattle.hard_items.specs.Streams.touched i.instr)) (items_of s.program b)
     clean b (inl h) = formed_clean (items_of s.program b) (l.formed b h)
-    clean b (inr h) = subst (λ (z : List Item). Rattle.hard_code.specs.Forms.Each (λ (i : Item). Rattle.hard_code.specs.Forms.Each (λ (r : ℕ). Rattle.layout_law.specs.Signs.is_sign r ≡ false) (Rattle.hard_code.specs.Streams.touched i.instr)) z) (sym (none s.program.blocks b h)) tt
+    clean b (inr h) = subst (λ (z : List Item). Rattle.hard_items.specs.Forms.Each (λ (i : Item). Rattle.hard_items.specs.Forms.Each (λ (r : ℕ). Rattle.layout_law.specs.Signs.is_sign r ≡ false) (Rattle.hard_items.specs.Streams.touched i.instr)) z) (sym (none s.program.blocks b h)) tt
 
 -- ---- followers
 

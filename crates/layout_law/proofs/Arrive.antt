@@ -4,13 +4,13 @@ use Rattle.std.specs.Prelude.{Option, None, ◌&&◌}
 use Rattle.mips_isa.specs.declared.instr.Instr.{Instr}
 use Rattle.mips_isa.specs.declared.instr.End.{End}
 use Rattle.mips_isa.specs.Machine.{State, plus, is_jump}
-use Rattle.hard_code.specs.declared.code.Fix.{Fix}
-use Rattle.hard_code.specs.declared.code.Item.{Item}
-use Rattle.hard_code.specs.declared.code.HardProgram.{HardProgram}
-use Rattle.hard_code.specs.Streams.{nop}
-use Rattle.hard_code.specs.Run.{Data, Spot, Way, Onward, Over, To, items_of, before, at_block, arrived, tail}
-use Rattle.hard_code.specs.Forms.{Each, HalvesPair}
-use Rattle.hard_code.specs.Counts.{calm_from, loaded, quiet_after, is_break, may_stand}
+use Rattle.hard_items.specs.declared.code.Fix.{Fix}
+use Rattle.hard_items.specs.declared.code.Item.{Item}
+use Rattle.hard_items.specs.declared.code.HardProgram.{HardProgram}
+use Rattle.hard_items.specs.Streams.{nop}
+use Rattle.hard_items.specs.Run.{Data, Spot, Way, Onward, Over, To, items_of, before, at_block, arrived, tail}
+use Rattle.hard_items.specs.Forms.{Each, HalvesPair}
+use Rattle.hard_items.specs.Counts.{calm_from, loaded, quiet_after, is_break, may_stand}
 use Rattle.layout_law.specs.Layout.{address, text}
 use Rattle.layout_law.specs.Level.{IsNop, IsStop, Lines, Layable, SameData, SamePlace, WaySame, SlotSame, Level}
 use Rattle.layout_law.proofs.Texts.{address_next}
@@ -204,7 +204,7 @@ over p l b i (j ∷ k ∷ more) d d' s s' o o' h q =
     eight pc a n e = omega arith
 
     behind : IsStop j → HalvesPair (j ∷ k ∷ more) o' → HalvesPair (k ∷ more) o'
-    behind st h = (subst (λ (x : Fix). Rattle.hard_code.specs.Forms.HalvesAt (HalvesPair (k ∷ more)) x o' j.instr) st.no_field h).1
+    behind st h = (subst (λ (x : Fix). Rattle.hard_items.specs.Forms.HalvesAt (HalvesPair (k ∷ more)) x o' j.instr) st.no_field h).1
 
 -- to a block
 away : (p : HardProgram) (l : Layable p) (b c : ℕ) (i : Item) (more : List Item) (d d' : Data) (s s' : State) (o o' : Bool) → SamePlace p o (spot b (i ∷ more) (To c) d None) s → Passed p i more o' b d' s s' → Level p (at_block p c d') s'

@@ -4,16 +4,16 @@ use Rattle.std.specs.Prelude.{Some, slice_get, ◌⊎◌, Contains}
 use Rattle.std.proofs.lemmas.Option.{get_or_from_slice_get}
 use Rattle.mips_isa.specs.declared.instr.Instr.{Instr}
 use Rattle.mips_isa.specs.declared.instr.Instr.TheVariants.{J, Jal, Beq, Bne}
-use Rattle.mips_isa.specs.Text.{At, IsBranch, branch_goal, jump_goal}
-use Rattle.mips_isa.specs.Blocks.{ForkAt, IsStart, begins, jumped, called, returned, taken, passed}
-use Rattle.hard_code.specs.declared.code.Fix.{Fix}
-use Rattle.hard_code.specs.declared.code.Fix.TheVariants.{Block, Function}
-use Rattle.hard_code.specs.declared.code.Item.{Item}
-use Rattle.hard_code.specs.declared.code.HardBlock.{HardBlock}
-use Rattle.hard_code.specs.declared.code.HardProgram.{HardProgram}
-use Rattle.hard_code.specs.Run.{items_of, block_items, named}
-use Rattle.hard_code.specs.Ways as ways
-use Rattle.hard_code.specs.Ways.{Holds, CallsFunction, MayFollow}
+use Rattle.mips_text.specs.Text.{At, IsBranch, branch_goal, jump_goal}
+use Rattle.mips_text.specs.Blocks.{ForkAt, IsStart, begins, jumped, called, returned, taken, passed}
+use Rattle.hard_items.specs.declared.code.Fix.{Fix}
+use Rattle.hard_items.specs.declared.code.Fix.TheVariants.{Block, Function}
+use Rattle.hard_items.specs.declared.code.Item.{Item}
+use Rattle.hard_items.specs.declared.code.HardBlock.{HardBlock}
+use Rattle.hard_items.specs.declared.code.HardProgram.{HardProgram}
+use Rattle.hard_items.specs.Run.{items_of, block_items, named}
+use Rattle.hard_items.specs.Ways as ways
+use Rattle.hard_items.specs.Ways.{Holds, CallsFunction, MayFollow}
 use Rattle.layout_law.specs.Layout.{address, offset, filled, text}
 use Rattle.layout_law.specs.Level.{ItemFits, LastSlot, Layable, Entered, LaidStarts}
 use Rattle.layout_law.proofs.Texts.{address_next}

@@ -4,16 +4,16 @@ use Rattle.std.specs.Prelude.{Some, None, ◌⊎◌, ◌==◌, ◌&&◌, ◌||�
 use Rattle.mips_isa.specs.declared.instr.Instr.{Instr}
 use Rattle.mips_isa.specs.declared.instr.Instr.TheVariants.{J, Jal, Jr, Beq, Bne, Break, Syscall, Sw, Ori, Lui}
 use Rattle.mips_isa.specs.Machine.{is_jump, among, writes_of}
-use Rattle.mips_isa.specs.Text.{At, IsBranch, SkipsReport, Critical, base, operand, target, argument}
-use Rattle.harden_lint.specs.Typing.{Role, master, shadow, role_of, Of, IsGuarded}
+use Rattle.mips_text.specs.Text.{At, IsBranch, SkipsReport, Critical, base, operand, target, argument}
+use Rattle.mips_text.specs.Typing.{Role, master, shadow, role_of, Of, IsGuarded}
 use Rattle.harden_lint.specs.Rules.{IsChecked}
-use Rattle.hard_code.specs.declared.code.Fix.{Fix}
-use Rattle.hard_code.specs.declared.code.Fix.TheVariants.{Plain, Block, Function, ReturnHigh, ReturnLow}
-use Rattle.hard_code.specs.declared.code.Item.{Item}
-use Rattle.hard_code.specs.declared.code.HardProgram.{HardProgram}
-use Rattle.hard_code.specs.Streams.{nop, shadow_of}
-use Rattle.hard_code.specs.Counts.{is_break}
-use Rattle.hard_code.specs.Forms.{is_value}
+use Rattle.hard_items.specs.declared.code.Fix.{Fix}
+use Rattle.hard_items.specs.declared.code.Fix.TheVariants.{Plain, Block, Function, ReturnHigh, ReturnLow}
+use Rattle.hard_items.specs.declared.code.Item.{Item}
+use Rattle.hard_items.specs.declared.code.HardProgram.{HardProgram}
+use Rattle.hard_items.specs.Streams.{nop, shadow_of}
+use Rattle.hard_items.specs.Counts.{is_break}
+use Rattle.hard_items.specs.Forms.{is_value}
 use Rattle.layout_law.specs.Layout.{address, filled, text}
 use Rattle.layout_law.specs.Level.{Layable, Entered}
 use Rattle.layout_law.proofs.Data.{same_or_not}

@@ -4,22 +4,22 @@ use Rattle.std.specs.Prelude.{Option, Some, None, ◌⊎◌, ◌==◌, ◌&&◌,
 use Rattle.mips_isa.specs.declared.instr.Instr.{Instr}
 use Rattle.mips_isa.specs.declared.instr.Instr.TheVariants.{J, Jal, Beq, Bne, Break, Ori, Lui, Xori, Xor}
 use Rattle.mips_isa.specs.Machine.{among, reads_of, writes_of}
-use Rattle.mips_isa.specs.Text.{At, used_of}
-use Rattle.mips_isa.specs.Blocks.{HeadAt}
-use Rattle.harden_lint.specs.Typing.{master, shadow, signs, Of}
+use Rattle.mips_text.specs.Text.{At, used_of}
+use Rattle.mips_text.specs.Blocks.{HeadAt}
+use Rattle.mips_text.specs.Typing.{master, shadow, signs, Of}
 use Rattle.harden_lint.specs.Rules.{HasHead, InHead, KeepsSigns}
-use Rattle.hard_code.specs.declared.code.Class.{Class}
-use Rattle.hard_code.specs.declared.code.Class.TheVariants.{Master, Shadow, Check, Act, Head, Input}
-use Rattle.hard_code.specs.declared.code.Fix.{Fix}
-use Rattle.hard_code.specs.declared.code.Fix.TheVariants.{Plain, Block, Function, ReturnHigh, ReturnLow}
-use Rattle.hard_code.specs.declared.code.Item.{Item}
-use Rattle.hard_code.specs.declared.code.HardProgram.{HardProgram}
-use Rattle.hard_code.specs.declared.code.Mark.{Mark}
-use Rattle.hard_code.specs.declared.code.Signed.{Signed}
-use Rattle.hard_code.specs.Streams.{nop, plain, shadow_of, touched, is_master, is_shadow}
-use Rattle.hard_code.specs.Run.{items_of}
-use Rattle.hard_code.specs.Forms.{Each, Form, Alone, Product, Store, Test, Output, Takes, Idle, Close, Jump, Branch, Call, Return, Exit, check_if, form_items, close_items, block_of, is_value, MayTouch, FormFits, CloseFits, Formed}
-use Rattle.hard_code.specs.Heads.{head_items, headed}
+use Rattle.hard_items.specs.declared.code.Class.{Class}
+use Rattle.hard_items.specs.declared.code.Class.TheVariants.{Master, Shadow, Check, Act, Head, Input}
+use Rattle.hard_items.specs.declared.code.Fix.{Fix}
+use Rattle.hard_items.specs.declared.code.Fix.TheVariants.{Plain, Block, Function, ReturnHigh, ReturnLow}
+use Rattle.hard_items.specs.declared.code.Item.{Item}
+use Rattle.hard_items.specs.declared.code.HardProgram.{HardProgram}
+use Rattle.hard_items.specs.declared.code.Mark.{Mark}
+use Rattle.hard_items.specs.declared.code.Signed.{Signed}
+use Rattle.hard_items.specs.Streams.{nop, plain, shadow_of, touched, is_master, is_shadow}
+use Rattle.hard_items.specs.Run.{items_of}
+use Rattle.hard_items.specs.Forms.{Each, Form, Alone, Product, Store, Test, Output, Takes, Idle, Close, Jump, Branch, Call, Return, Exit, check_if, form_items, close_items, block_of, is_value, MayTouch, FormFits, CloseFits, Formed}
+use Rattle.hard_items.specs.Heads.{head_items, headed}
 use Rattle.layout_law.specs.Layout.{address, filled, text}
 use Rattle.layout_law.specs.Level.{Layable, Entered}
 use Rattle.layout_law.specs.Signs.{is_sign}

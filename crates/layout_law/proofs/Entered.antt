@@ -1,19 +1,19 @@
 -- The two laws together; and how the blocks of a signed program are entered.
 use Rattle.std.proofs.Common.{◌≡◌, ◌≤◌, ◌<◌, ℕ, ◌+◌, arith, sym, subst, List, length, length-append, inl, inr}
 use Rattle.std.specs.Prelude.{None, slice_get}
-use Rattle.hard_words.specs.Observed.{SameObserved}
-use Rattle.hard_words.proofs.Observed.{same_transitive}
-use Rattle.hard_words.specs.Stepping.{Always}
+use Rattle.hard_runs.specs.Observed.{SameObserved}
+use Rattle.hard_runs.proofs.Observed.{same_transitive}
+use Rattle.hard_runs.specs.Stepping.{Always}
 use Rattle.mips_isa.specs.declared.instr.End.{End}
 use Rattle.mips_isa.specs.declared.instr.End.TheVariants.{Reported}
 use Rattle.mips_isa.specs.Runs.{observed}
 use Rattle.mips_isa.specs.Image.{boot_state}
-use Rattle.hard_code.specs.declared.code.Signed.{Signed}
-use Rattle.hard_code.specs.Run.{items, items_of, first_spot, item_run}
-use Rattle.hard_code.specs.WellFormed.{WellFormed, ItemAt, IsEntered}
+use Rattle.hard_items.specs.declared.code.Signed.{Signed}
+use Rattle.hard_items.specs.Run.{items, items_of, first_spot, item_run}
+use Rattle.hard_items.specs.WellFormed.{WellFormed, ItemAt, IsEntered}
 use Rattle.hard_words.specs.Words.{AreWords}
-use Rattle.hard_code.specs.Rules.{LawfulAt, NeverReports}
-use Rattle.hard_code.specs.Heads.{headed, signed_run}
+use Rattle.hard_items.specs.Rules.{LawfulAt, NeverReports}
+use Rattle.hard_items.specs.Heads.{headed, signed_run}
 use Rattle.layout_law.specs.Layout.{image}
 use Rattle.layout_law.specs.Level.{Entered}
 use Rattle.layout_law.specs.Signs.{Follows, Signing, HeadedWordsSame}

@@ -8,12 +8,12 @@ use Rattle.mips_isa.specs.declared.instr.Instr.TheVariants.{J, Jal, Jr, Beq, Bne
 use Rattle.mips_isa.specs.Table.{encoding, decoded, IsInRange}
 use Rattle.mips_isa.specs.Machine.{State, plus, planned, row_act, text_place}
 use Rattle.mips_isa.proofs.Inverse.{decodes_encoded}
-use Rattle.hard_code.specs.declared.code.Fix.{Fix}
-use Rattle.hard_code.specs.declared.code.Fix.TheVariants.{Plain, Block, Function, ReturnHigh, ReturnLow}
-use Rattle.hard_code.specs.declared.code.Item.{Item}
-use Rattle.hard_code.specs.declared.code.HardBlock.{HardBlock}
-use Rattle.hard_code.specs.declared.code.HardProgram.{HardProgram}
-use Rattle.hard_code.specs.Run.{items_of, named}
+use Rattle.hard_items.specs.declared.code.Fix.{Fix}
+use Rattle.hard_items.specs.declared.code.Fix.TheVariants.{Plain, Block, Function, ReturnHigh, ReturnLow}
+use Rattle.hard_items.specs.declared.code.Item.{Item}
+use Rattle.hard_items.specs.declared.code.HardBlock.{HardBlock}
+use Rattle.hard_items.specs.declared.code.HardProgram.{HardProgram}
+use Rattle.hard_items.specs.Run.{items_of, named}
 use Rattle.layout_law.specs.Layout.{words, address, offset, Reaches, filled, text}
 use Rattle.layout_law.specs.Level.{Lines, ItemFits, FieldReaches, Layable}
 use Rattle.layout_law.proofs.Texts.{WordAt, word_at, address_next}

@@ -4,15 +4,15 @@ use Rattle.std.specs.Prelude.{Some, ◌⊎◌, IsTrue}
 use Rattle.mips_isa.specs.declared.instr.Instr.{Instr}
 use Rattle.mips_isa.specs.declared.instr.Instr.TheVariants.{J, Jal, Beq, Break}
 use Rattle.mips_isa.specs.Machine.{is_jump, among, writes_of}
-use Rattle.mips_isa.specs.Text.{InText, At, Writes, Critical, branch_goal}
-use Rattle.mips_isa.specs.Blocks.{IsStart}
-use Rattle.harden_lint.specs.Typing as typing
+use Rattle.mips_text.specs.Text.{InText, At, Writes, Critical, branch_goal}
+use Rattle.mips_text.specs.Blocks.{IsStart}
+use Rattle.mips_text.specs.Typing as typing
 use Rattle.layout_law.proofs.Data.{same_or_not}
-use Rattle.harden_lint.specs.Typing.{IsProductOf, ProductsOf, Role, master, shadow, Of, CheckAt, IsSlot, Next, Path, IsGuarded}
-use Rattle.hard_code.specs.declared.code.Fix.TheVariants.{Plain}
-use Rattle.hard_code.specs.declared.code.Item.{Item}
-use Rattle.hard_code.specs.declared.code.HardProgram.{HardProgram}
-use Rattle.hard_code.specs.Counts.{is_break}
+use Rattle.mips_text.specs.Typing.{IsProductOf, ProductsOf, Role, master, shadow, Of, CheckAt, IsSlot, Next, Path, IsGuarded}
+use Rattle.hard_items.specs.declared.code.Fix.TheVariants.{Plain}
+use Rattle.hard_items.specs.declared.code.Item.{Item}
+use Rattle.hard_items.specs.declared.code.HardProgram.{HardProgram}
+use Rattle.hard_items.specs.Counts.{is_break}
 use Rattle.layout_law.specs.Layout.{address, text}
 use Rattle.layout_law.specs.Level.{IsStop, Layable, Entered}
 use Rattle.layout_law.proofs.Views.{ItemWord, at_item, in_text, item_in_text, next_item}

@@ -5,22 +5,22 @@ use Rattle.mips_isa.specs.declared.instr.Instr.{Instr}
 use Rattle.mips_isa.specs.declared.instr.Instr.TheVariants.{Xor, Mfhi, Mflo, Mult, Multu, Div, Divu}
 use Rattle.mips_isa.specs.Machine.{is_jump, is_product, among, reads_of, writes_of}
 use Rattle.mips_isa.specs.Locality.{is_move}
-use Rattle.mips_isa.specs.Text.{At}
-use Rattle.harden_lint.specs.Typing.{Role, Of, IsSlot, IsProductOf, ProductsOf}
+use Rattle.mips_text.specs.Text.{At}
+use Rattle.mips_text.specs.Typing.{Role, Of, IsSlot, IsProductOf, ProductsOf}
 use Rattle.harden_lint.specs.Rules.{FromOwn, KeepsStream}
-use Rattle.hard_code.specs.declared.code.Class.{Class}
-use Rattle.hard_code.specs.declared.code.Class.TheVariants.{Master, Shadow, Check, Act, Input, Head}
-use Rattle.hard_code.specs.declared.code.Fix.{Fix}
-use Rattle.hard_code.specs.declared.code.Item.{Item}
-use Rattle.hard_code.specs.declared.code.HardProgram.{HardProgram}
-use Rattle.hard_code.specs.declared.code.Mark.{Mark}
-use Rattle.hard_code.specs.declared.code.Signed.{Signed}
-use Rattle.hard_code.specs.Streams.{nop, plain, touched}
-use Rattle.hard_code.specs.Run.{items_of}
-use Rattle.hard_code.specs.Forms.{Each, Form, Alone, Product, Store, Test, Output, Takes, Idle, Close, Jump, Branch, Call, Return, Exit, form_items, close_items, block_of, MayTouch, IsProduct, FormFits, HasChecks, CloseHasChecks}
-use Rattle.hard_code.specs.Rules.{Checked, Guarded}
-use Rattle.hard_code.specs.Heads.{head_items, headed}
-use Rattle.hard_code.specs.Counts.{is_break}
+use Rattle.hard_items.specs.declared.code.Class.{Class}
+use Rattle.hard_items.specs.declared.code.Class.TheVariants.{Master, Shadow, Check, Act, Input, Head}
+use Rattle.hard_items.specs.declared.code.Fix.{Fix}
+use Rattle.hard_items.specs.declared.code.Item.{Item}
+use Rattle.hard_items.specs.declared.code.HardProgram.{HardProgram}
+use Rattle.hard_items.specs.declared.code.Mark.{Mark}
+use Rattle.hard_items.specs.declared.code.Signed.{Signed}
+use Rattle.hard_items.specs.Streams.{nop, plain, touched}
+use Rattle.hard_items.specs.Run.{items_of}
+use Rattle.hard_items.specs.Forms.{Each, Form, Alone, Product, Store, Test, Output, Takes, Idle, Close, Jump, Branch, Call, Return, Exit, form_items, close_items, block_of, MayTouch, IsProduct, FormFits, HasChecks, CloseHasChecks}
+use Rattle.hard_items.specs.Rules.{Checked, Guarded}
+use Rattle.hard_items.specs.Heads.{head_items, headed}
+use Rattle.hard_items.specs.Counts.{is_break}
 use Rattle.layout_law.specs.Layout.{address, filled, text}
 use Rattle.layout_law.specs.Level.{LastSlot, SkippedSlot, Layable, Entered}
 use Rattle.layout_law.proofs.Acts.{each_left}

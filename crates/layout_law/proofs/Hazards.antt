@@ -5,16 +5,16 @@ use Rattle.mips_isa.specs.declared.instr.Instr.{Instr}
 use Rattle.mips_isa.specs.declared.instr.Instr.TheVariants.{J, Jal, Beq, Bne, Break, Mfhi, Mflo, Lw, Lui, Ori}
 use Rattle.mips_isa.specs.Machine.{is_jump, is_product, reads_of, among}
 use Rattle.mips_isa.specs.Locality.{is_move}
-use Rattle.mips_isa.specs.Text.{At, Reads}
-use Rattle.harden_lint.specs.Typing.{IsSlot, Next}
+use Rattle.mips_text.specs.Text.{At, Reads}
+use Rattle.mips_text.specs.Typing.{IsSlot, Next}
 use Rattle.harden_lint.specs.Rules.{MovesHalf, HasNoHazard}
-use Rattle.hard_code.specs.declared.code.Fix.{Fix}
-use Rattle.hard_code.specs.declared.code.Fix.TheVariants.{Plain, Block, Function, ReturnHigh, ReturnLow}
-use Rattle.hard_code.specs.declared.code.Item.{Item}
-use Rattle.hard_code.specs.declared.code.HardProgram.{HardProgram}
-use Rattle.hard_code.specs.Streams.{nop}
-use Rattle.hard_code.specs.Run.{items_of}
-use Rattle.hard_code.specs.Counts.{calm_from, loaded, quiet_after, is_break, may_stand}
+use Rattle.hard_items.specs.declared.code.Fix.{Fix}
+use Rattle.hard_items.specs.declared.code.Fix.TheVariants.{Plain, Block, Function, ReturnHigh, ReturnLow}
+use Rattle.hard_items.specs.declared.code.Item.{Item}
+use Rattle.hard_items.specs.declared.code.HardProgram.{HardProgram}
+use Rattle.hard_items.specs.Streams.{nop}
+use Rattle.hard_items.specs.Run.{items_of}
+use Rattle.hard_items.specs.Counts.{calm_from, loaded, quiet_after, is_break, may_stand}
 use Rattle.layout_law.specs.Layout.{address, filled, text}
 use Rattle.layout_law.specs.Level.{Lines, LastSlot, SkippedSlot, IsNop, Layable, Entered}
 use Rattle.layout_law.proofs.Arrive.{calm_tail, calm_break, stop_is_break}

@@ -4,29 +4,29 @@ use Rattle.std.specs.Prelude.{Option, Some, None, slice_get, slice_index, slice_
 use Rattle.std.specs.Int.Bits.{or_zero_l}
 use Rattle.std.proofs.lemmas.List.Elements.{Contains-append_right}
 use Rattle.std.proofs.lemmas.Option.{slice_get-get_or}
-use Rattle.hard_words.specs.Stepping.{Stepper, Stands, put, go, Quiet, Leads, Beside, on, over, Stage}
-use Rattle.hard_words.proofs.Following.{follows}
+use Rattle.hard_runs.specs.Stepping.{Stepper, Stands, put, go, Quiet, Leads, Beside, on, over, Stage}
+use Rattle.hard_runs.proofs.Following.{follows}
 use Rattle.mips_isa.specs.declared.instr.Instr.{Instr}
 use Rattle.mips_isa.specs.declared.instr.Instr.TheVariants.{Jr, Beq, Break, Lw, Sw, Xori, Xor, Ori}
 use Rattle.mips_isa.specs.declared.instr.Act.{Act}
 use Rattle.mips_isa.specs.declared.instr.End.{End}
 use Rattle.mips_isa.specs.Machine.{State, perform, plus, is_jump, reads_of, writes_of, branch, written}
-use Rattle.hard_code.specs.declared.code.Class.TheVariants.{Head}
-use Rattle.hard_code.specs.declared.code.Fix.{Fix}
-use Rattle.hard_code.specs.declared.code.Fix.TheVariants.{Function}
-use Rattle.hard_code.specs.declared.code.Item.{Item}
-use Rattle.hard_code.specs.declared.code.HardProgram.{HardProgram}
-use Rattle.hard_code.specs.declared.code.Mark.{Mark}
-use Rattle.hard_code.specs.declared.code.Signed.{Signed}
-use Rattle.hard_code.specs.Streams.{nop, plain, touched}
-use Rattle.hard_code.specs.Run.{Data, Spot, Way, Onward, Over, To, items, items_of, block_items, named, way_of, item_act, machine_of, held, before, at_block, arrived, settled, data_after, marked_reg, first_data, first_spot, item_run}
-use Rattle.hard_code.specs.Ways as ways
-use Rattle.hard_code.specs.Ways.{Holds, CallsFunction, IsOfFunction, MayFollow}
-use Rattle.hard_code.specs.WellFormed.{WellFormed}
-use Rattle.hard_code.specs.Forms.{Each, Formed}
-use Rattle.hard_code.specs.Counts.{is_break}
-use Rattle.hard_code.specs.Rules.{Lawful, LawfulNext, LawfulAt, Parity, Placed, Returns, Reads}
-use Rattle.hard_code.specs.Heads.{head_items, headed}
+use Rattle.hard_items.specs.declared.code.Class.TheVariants.{Head}
+use Rattle.hard_items.specs.declared.code.Fix.{Fix}
+use Rattle.hard_items.specs.declared.code.Fix.TheVariants.{Function}
+use Rattle.hard_items.specs.declared.code.Item.{Item}
+use Rattle.hard_items.specs.declared.code.HardProgram.{HardProgram}
+use Rattle.hard_items.specs.declared.code.Mark.{Mark}
+use Rattle.hard_items.specs.declared.code.Signed.{Signed}
+use Rattle.hard_items.specs.Streams.{nop, plain, touched}
+use Rattle.hard_items.specs.Run.{Data, Spot, Way, Onward, Over, To, items, items_of, block_items, named, way_of, item_act, machine_of, held, before, at_block, arrived, settled, data_after, marked_reg, first_data, first_spot, item_run}
+use Rattle.hard_items.specs.Ways as ways
+use Rattle.hard_items.specs.Ways.{Holds, CallsFunction, IsOfFunction, MayFollow}
+use Rattle.hard_items.specs.WellFormed.{WellFormed}
+use Rattle.hard_items.specs.Forms.{Each, Formed}
+use Rattle.hard_items.specs.Counts.{is_break}
+use Rattle.hard_items.specs.Rules.{Lawful, LawfulNext, LawfulAt, Parity, Placed, Returns, Reads}
+use Rattle.hard_items.specs.Heads.{head_items, headed}
 use Rattle.layout_law.specs.Level.{Lines}
 use Rattle.layout_law.specs.Signs.{is_sign, arrives, MarksAgree, Unsigned, with_regs, Kept, Follows, Signing, HeadsSame}
 use Rattle.layout_law.proofs.Data.{set_at, set_off}
@@ -313,7 +313,7 @@ head_end s input c m k more d regs backs kp g =
       adjustment = at28;
     }
   where
-    pass_end : (c : ℕ) (d : Data) (regs : List ℕ) (backs : ℕ → Bool) (z : Bool) → (perform (Rattle.hard_code.specs.Run.numbered c (branch z (machine_of (with_regs d regs backs)) 2)) (machine_of (with_regs d regs backs))).0.end ≡ None
+    pass_end : (c : ℕ) (d : Data) (regs : List ℕ) (backs : ℕ → Bool) (z : Bool) → (perform (Rattle.hard_items.specs.Run.numbered c (branch z (machine_of (with_regs d regs backs)) 2)) (machine_of (with_regs d regs backs))).0.end ≡ None
     pass_end c d regs backs true = refl
     pass_end c d regs backs false = refl
 
@@ -374,7 +374,7 @@ head_left s input c ms md mj false k more d regs backs kp g =
 -- ---- stages
 
 stand : (p : HardProgram) → Stands (items p)
-stand p s e h = ap (λ (z : Option End). Rattle.hard_code.specs.Run.step_from p s z) h
+stand p s e h = ap (λ (z : Option End). Rattle.hard_items.specs.Run.step_from p s z) h
 
 item_step_open : (s : Signed) (y : Ready s) (b : ℕ) (rest : List Item) (w : Way) (d : Data) (x : Option End) (regs : List ℕ) (backs : ℕ → Bool) (m : Mark) (slot : Bool) → x ≡ None → Kept d.backs backs d.regs regs → slice_get s.marks b ≡ Some m → slice_index regs 24 ≡ m.s → slice_index regs 28 ≡ m.adjust → Standing s.program b rest w slot → LawfulNext s.program b rest d →
     ItemStep s (spot b rest w d x) (spot b rest w (with_regs d regs backs) x)
@@ -449,10 +449,10 @@ ready s g = record {
   agree = g.agree;
   unsigned = g.unsigned;
   there = λ b c m. Rattle.layout_law.proofs.Laying.follows_there s g.well_formed b c (follow_up s b c m);
-  entries = λ b f i h e. entry f (subst (λ (z : Fix). Rattle.hard_code.specs.WellFormed.NamesThere s.program z) e (Rattle.std.proofs.lemmas.List.Elements.All-contains (λ (i : Item). Rattle.hard_code.specs.WellFormed.NamesThere s.program i.fix) (items_of s.program b) i (g.well_formed.named_there b) h));
+  entries = λ b f i h e. entry f (subst (λ (z : Fix). Rattle.hard_items.specs.WellFormed.NamesThere s.program z) e (Rattle.std.proofs.lemmas.List.Elements.All-contains (λ (i : Item). Rattle.hard_items.specs.WellFormed.NamesThere s.program i.fix) (items_of s.program b) i (g.well_formed.named_there b) h));
   lines = λ b h. let f : Formed (items_of s.program b) = g.formed b h in
       subst (λ (z : List Item). Lines s.program false z) (sym f.is) (Rattle.layout_law.proofs.Lines.block_lines s.program f.forms f.close f.fit
-      (Rattle.layout_law.proofs.Laying.fits_close s.program f.close (Rattle.layout_law.proofs.Laying.each_right (λ (i : Item). Rattle.hard_code.specs.WellFormed.NamesThere s.program i.fix) (Rattle.std.specs.Prelude.flat_map Rattle.hard_code.specs.Forms.form_items f.forms) (Rattle.hard_code.specs.Forms.close_items f.close) (subst (λ (z : List Item). Each (λ (i : Item). Rattle.hard_code.specs.WellFormed.NamesThere s.program i.fix) z) f.is (Rattle.layout_law.proofs.Laying.each_of_all (λ (i : Item). Rattle.hard_code.specs.WellFormed.NamesThere s.program i.fix) (items_of s.program b) (g.well_formed.named_there b)))) (Rattle.layout_law.proofs.Laying.entries_named s.program g.well_formed)));
+      (Rattle.layout_law.proofs.Laying.fits_close s.program f.close (Rattle.layout_law.proofs.Laying.each_right (λ (i : Item). Rattle.hard_items.specs.WellFormed.NamesThere s.program i.fix) (Rattle.std.specs.Prelude.flat_map Rattle.hard_items.specs.Forms.form_items f.forms) (Rattle.hard_items.specs.Forms.close_items f.close) (subst (λ (z : List Item). Each (λ (i : Item). Rattle.hard_items.specs.WellFormed.NamesThere s.program i.fix) z) f.is (Rattle.layout_law.proofs.Laying.each_of_all (λ (i : Item). Rattle.hard_items.specs.WellFormed.NamesThere s.program i.fix) (items_of s.program b) (g.well_formed.named_there b)))) (Rattle.layout_law.proofs.Laying.entries_named s.program g.well_formed)));
 }
   where
     entry : (f : ℕ) → f < length s.program.entries → slice_get s.program.entries f ≡ Some (named s.program (Function f))

@@ -7,15 +7,15 @@ use Rattle.mips_isa.specs.declared.instr.Instr.TheVariants.{J, Jal, Jr, Beq, Bne
 use Rattle.mips_isa.specs.declared.instr.Act.{Act}
 use Rattle.mips_isa.specs.declared.instr.Act.TheVariants.{Pass}
 use Rattle.mips_isa.specs.Machine.{State, reg, plus, perform, act, branch, branch_target, is_jump}
-use Rattle.hard_code.specs.declared.code.Class.{Class}
-use Rattle.hard_code.specs.declared.code.Fix.{Fix}
-use Rattle.hard_code.specs.declared.code.Fix.TheVariants.{Plain, Block, Function, ReturnHigh, ReturnLow}
-use Rattle.hard_code.specs.declared.code.Item.{Item}
-use Rattle.hard_code.specs.declared.code.HardProgram.{HardProgram}
-use Rattle.hard_code.specs.Run.{Data, Way, Onward, Over, To, named, branch_way, way_of, item_act, numbered, machine_of, held, data_after}
-use Rattle.hard_code.specs.Forms.{Each, HalvesPair, HalvesAt}
-use Rattle.hard_code.specs.Counts.{loaded, quiet_after, is_break}
-use Rattle.hard_code.specs.Rules.{Lawful}
+use Rattle.hard_items.specs.declared.code.Class.{Class}
+use Rattle.hard_items.specs.declared.code.Fix.{Fix}
+use Rattle.hard_items.specs.declared.code.Fix.TheVariants.{Plain, Block, Function, ReturnHigh, ReturnLow}
+use Rattle.hard_items.specs.declared.code.Item.{Item}
+use Rattle.hard_items.specs.declared.code.HardProgram.{HardProgram}
+use Rattle.hard_items.specs.Run.{Data, Way, Onward, Over, To, named, branch_way, way_of, item_act, numbered, machine_of, held, data_after}
+use Rattle.hard_items.specs.Forms.{Each, HalvesPair, HalvesAt}
+use Rattle.hard_items.specs.Counts.{loaded, quiet_after, is_break}
+use Rattle.hard_items.specs.Rules.{Lawful}
 use Rattle.layout_law.specs.Layout.{address, offset, Reaches, filled, text}
 use Rattle.layout_law.specs.Level.{LastSlot, SkippedSlot, ItemFits, BranchFits, FieldReaches, Layable, worth, SameData, WaySame, SlotSame}
 use Rattle.layout_law.proofs.Fields.{InWords, in_words, inside, way, goes, jumps_to}

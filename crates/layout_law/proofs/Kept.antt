@@ -10,14 +10,14 @@ use Rattle.mips_isa.specs.declared.instr.End.{End}
 use Rattle.mips_isa.specs.declared.instr.End.TheVariants.{Exited, Starved, Exception}
 use Rattle.mips_isa.specs.Machine.{State, reg, perform, written, moved, with_reg, service, in_memory, place, act, reads_of, writes_of}
 use Rattle.mips_isa.specs.Locality.{Agree, Puts}
-use Rattle.mips_isa.proofs.Locality.{same_act, puts}
-use Rattle.hard_code.specs.declared.code.Fix.{Fix}
-use Rattle.hard_code.specs.declared.code.Fix.TheVariants.{Plain, Block, Function, ReturnHigh, ReturnLow}
-use Rattle.hard_code.specs.declared.code.Item.{Item}
-use Rattle.hard_code.specs.declared.code.HardProgram.{HardProgram}
-use Rattle.hard_code.specs.Streams.{touched}
-use Rattle.hard_code.specs.Run.{Data, machine_of, held, marked, marked_reg, makes_number, value_of, data_after, item_act, completed, numbered, way_of, Way}
-use Rattle.hard_code.specs.Forms.{Each}
+use Rattle.mips_laws.proofs.Locality.{same_act, puts}
+use Rattle.hard_items.specs.declared.code.Fix.{Fix}
+use Rattle.hard_items.specs.declared.code.Fix.TheVariants.{Plain, Block, Function, ReturnHigh, ReturnLow}
+use Rattle.hard_items.specs.declared.code.Item.{Item}
+use Rattle.hard_items.specs.declared.code.HardProgram.{HardProgram}
+use Rattle.hard_items.specs.Streams.{touched}
+use Rattle.hard_items.specs.Run.{Data, machine_of, held, marked, marked_reg, makes_number, value_of, data_after, item_act, completed, numbered, way_of, Way}
+use Rattle.hard_items.specs.Forms.{Each}
 use Rattle.layout_law.specs.Signs.{is_sign, with_regs, Kept}
 use Rattle.layout_law.proofs.Data.{set_off, set_length, same_or_not}
 use Rattle.layout_law.proofs.Acts.{each_left, each_right}
@@ -208,7 +208,7 @@ clear_completed b ReturnLow a h = refl
 pub clear_item : (b : ℕ) (i : Item) (d : Data) → Each (λ r. is_sign r ≡ false) (touched i.instr) → Clear (item_act b i d)
 clear_item b i d h = clear_completed b i.fix (numbered b (act i.instr (machine_of d))) (clear_by b (writes_of i.instr) (act i.instr (machine_of d)) (puts i.instr (machine_of d)) (each_right (λ r. is_sign r ≡ false) (reads_of i.instr) (writes_of i.instr) h))
 
-pub clear_value : (x : Instr) → Each (λ r. is_sign r ≡ false) (touched x) → is_sign (Rattle.hard_code.specs.Run.value_of x) ≡ false
+pub clear_value : (x : Instr) → Each (λ r. is_sign r ≡ false) (touched x) → is_sign (Rattle.hard_items.specs.Run.value_of x) ≡ false
 clear_value (Sw rt rs imm) h = h.0
 clear_value x h = refl
 
@@ -220,7 +220,7 @@ pub act_kept : (b : ℕ) (i : Item) (d : Data) (regs : List ℕ) (backs : ℕ �
 act_kept b i d regs backs k h = ap (λ (z : Act). completed i.fix b (numbered b z)) (same_act i.instr (machine_of (with_regs d regs backs)) (machine_of d) refl (λ e. (refl, refl)) (agree_kept d regs backs (reads_of i.instr) k (each_left (λ r. is_sign r ≡ false) (reads_of i.instr) (writes_of i.instr) h)))
 
 -- The same way, in two programs of the same entries.
-named_same : (p q : HardProgram) (f : Fix) → q.entries ≡ p.entries → Rattle.hard_code.specs.Run.named q f ≡ Rattle.hard_code.specs.Run.named p f
+named_same : (p q : HardProgram) (f : Fix) → q.entries ≡ p.entries → Rattle.hard_items.specs.Run.named q f ≡ Rattle.hard_items.specs.Run.named p f
 named_same p q Plain e = refl
 named_same p q (Block t) e = refl
 named_same p q (Function f) e = ap (λ (z : List ℕ). slice_index z f) e
@@ -228,15 +228,15 @@ named_same p q ReturnHigh e = refl
 named_same p q ReturnLow e = refl
 
 pub way_kept : (p q : HardProgram) (i : Item) (d : Data) (regs : List ℕ) (backs : ℕ → Bool) (x : Instr) → q.entries ≡ p.entries → Kept d.backs backs d.regs regs → Each (λ r. is_sign r ≡ false) (touched x) → way_of q i (with_regs d regs backs) x ≡ way_of p i d x
-way_kept p q i d regs backs (J target) e k h = ap Rattle.hard_code.specs.Run.To (named_same p q i.fix e)
-way_kept p q i d regs backs (Jal target) e k h = ap Rattle.hard_code.specs.Run.To (named_same p q i.fix e)
-way_kept p q i d regs backs (Jr rs) e k h = ap Rattle.hard_code.specs.Run.To (k.same rs h.0)
+way_kept p q i d regs backs (J target) e k h = ap Rattle.hard_items.specs.Run.To (named_same p q i.fix e)
+way_kept p q i d regs backs (Jal target) e k h = ap Rattle.hard_items.specs.Run.To (named_same p q i.fix e)
+way_kept p q i d regs backs (Jr rs) e k h = ap Rattle.hard_items.specs.Run.To (k.same rs h.0)
 way_kept p q i d regs backs (Beq rs rt imm) e k h = same (slice_index regs rs) (held d rs) (slice_index regs rt) (held d rt) (k.same rs h.0) (k.same rt h.1.0)
   where
-    same : (a b c f : ℕ) → a ≡ b → c ≡ f → cond (a == c) (Rattle.hard_code.specs.Run.branch_way i.fix) Rattle.hard_code.specs.Run.Onward ≡ cond (b == f) (Rattle.hard_code.specs.Run.branch_way i.fix) Rattle.hard_code.specs.Run.Onward
+    same : (a b c f : ℕ) → a ≡ b → c ≡ f → cond (a == c) (Rattle.hard_items.specs.Run.branch_way i.fix) Rattle.hard_items.specs.Run.Onward ≡ cond (b == f) (Rattle.hard_items.specs.Run.branch_way i.fix) Rattle.hard_items.specs.Run.Onward
     same a b c f u v = rw (u, v) refl
 way_kept p q i d regs backs (Bne rs rt imm) e k h = same (slice_index regs rs) (held d rs) (slice_index regs rt) (held d rt) (k.same rs h.0) (k.same rt h.1.0)
   where
-    same : (a b c f : ℕ) → a ≡ b → c ≡ f → cond (a == c) Rattle.hard_code.specs.Run.Onward (Rattle.hard_code.specs.Run.branch_way i.fix) ≡ cond (b == f) Rattle.hard_code.specs.Run.Onward (Rattle.hard_code.specs.Run.branch_way i.fix)
+    same : (a b c f : ℕ) → a ≡ b → c ≡ f → cond (a == c) Rattle.hard_items.specs.Run.Onward (Rattle.hard_items.specs.Run.branch_way i.fix) ≡ cond (b == f) Rattle.hard_items.specs.Run.Onward (Rattle.hard_items.specs.Run.branch_way i.fix)
     same a b c f u v = rw (u, v) refl
 way_kept p q i d regs backs x e k h = refl

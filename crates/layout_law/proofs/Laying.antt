@@ -5,20 +5,20 @@ use Rattle.std.proofs.lemmas.List.Elements.{Contains-append_cases, All-contains}
 use Rattle.std.proofs.lemmas.Option.{slice_get_read, slice_get_within, get_or_from_slice_get}
 use Rattle.mips_isa.specs.declared.instr.Instr.TheVariants.{Xor}
 use Rattle.mips_isa.specs.Table.{IsInRange}
-use Rattle.hard_code.specs.declared.code.Fix.{Fix}
-use Rattle.hard_code.specs.declared.code.Fix.TheVariants.{Plain, Block, Function}
-use Rattle.hard_code.specs.declared.code.Item.{Item}
-use Rattle.hard_code.specs.declared.code.HardBlock.{HardBlock}
-use Rattle.hard_code.specs.declared.code.HardProgram.{HardProgram}
-use Rattle.hard_code.specs.declared.code.Mark.{Mark}
-use Rattle.hard_code.specs.declared.code.Signed.{Signed}
-use Rattle.hard_code.specs.Streams.{nop}
-use Rattle.hard_code.specs.Run.{items_of, block_items, named}
-use Rattle.hard_code.specs.Ways.{Holds, CallsFunction, MayFollow, jumped, branched_eq, branched_ne, fallen_eq, fallen_ne, called, returned}
-use Rattle.hard_code.specs.WellFormed.{WellFormed, ItemAt, NamesThere}
-use Rattle.hard_code.specs.Forms.{Each, Close, Jump, Branch, Call, Return, Exit, form_items, close_items, Formed, HalvesPair}
-use Rattle.hard_code.specs.Heads.{head_items, headed}
-use Rattle.hard_code.specs.Counts.{calm_from}
+use Rattle.hard_items.specs.declared.code.Fix.{Fix}
+use Rattle.hard_items.specs.declared.code.Fix.TheVariants.{Plain, Block, Function}
+use Rattle.hard_items.specs.declared.code.Item.{Item}
+use Rattle.hard_items.specs.declared.code.HardBlock.{HardBlock}
+use Rattle.hard_items.specs.declared.code.HardProgram.{HardProgram}
+use Rattle.hard_items.specs.declared.code.Mark.{Mark}
+use Rattle.hard_items.specs.declared.code.Signed.{Signed}
+use Rattle.hard_items.specs.Streams.{nop}
+use Rattle.hard_items.specs.Run.{items_of, block_items, named}
+use Rattle.hard_items.specs.Ways.{Holds, CallsFunction, MayFollow, jumped, branched_eq, branched_ne, fallen_eq, fallen_ne, called, returned}
+use Rattle.hard_items.specs.WellFormed.{WellFormed, ItemAt, NamesThere}
+use Rattle.hard_items.specs.Forms.{Each, Close, Jump, Branch, Call, Return, Exit, form_items, close_items, Formed, HalvesPair}
+use Rattle.hard_items.specs.Heads.{head_items, headed}
+use Rattle.hard_items.specs.Counts.{calm_from}
 use Rattle.layout_law.specs.Level.{Lines, MarkFits, CanBeLaid}
 use Rattle.layout_law.proofs.Lines.{CloseThere, block_lines, head_lines, head_of, heads_length, items_headed}
 

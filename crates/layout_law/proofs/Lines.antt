@@ -5,18 +5,18 @@ use Rattle.mips_isa.specs.declared.instr.Instr.{Instr}
 use Rattle.mips_isa.specs.declared.instr.Instr.TheVariants.{Beq, Bne, Break, J, Jal, Jr, Sw, Xor}
 use Rattle.mips_isa.specs.Machine.{is_jump}
 use Rattle.mips_isa.specs.Locality.{is_data}
-use Rattle.hard_code.specs.declared.code.Class.TheVariants.{Act}
-use Rattle.hard_code.specs.declared.code.Fix.{Fix}
-use Rattle.hard_code.specs.declared.code.Fix.TheVariants.{Plain, Block, Function, ReturnHigh, ReturnLow}
-use Rattle.hard_code.specs.declared.code.Item.{Item}
-use Rattle.hard_code.specs.declared.code.HardBlock.{HardBlock}
-use Rattle.hard_code.specs.declared.code.HardProgram.{HardProgram}
-use Rattle.hard_code.specs.declared.code.Mark.{Mark}
-use Rattle.hard_code.specs.declared.code.Signed.{Signed}
-use Rattle.hard_code.specs.Streams.{nop, plain, shadow_of}
-use Rattle.hard_code.specs.Run.{items_of, block_items, named}
-use Rattle.hard_code.specs.Forms.{Each, Form, Alone, Product, Store, Test, Output, Takes, Idle, Close, Jump, Branch, Call, Return, Exit, check, check_if, form_items, close_items, block_of, HalfFits, FormFits}
-use Rattle.hard_code.specs.Heads.{head_items, with_heads, headed}
+use Rattle.hard_items.specs.declared.code.Class.TheVariants.{Act}
+use Rattle.hard_items.specs.declared.code.Fix.{Fix}
+use Rattle.hard_items.specs.declared.code.Fix.TheVariants.{Plain, Block, Function, ReturnHigh, ReturnLow}
+use Rattle.hard_items.specs.declared.code.Item.{Item}
+use Rattle.hard_items.specs.declared.code.HardBlock.{HardBlock}
+use Rattle.hard_items.specs.declared.code.HardProgram.{HardProgram}
+use Rattle.hard_items.specs.declared.code.Mark.{Mark}
+use Rattle.hard_items.specs.declared.code.Signed.{Signed}
+use Rattle.hard_items.specs.Streams.{nop, plain, shadow_of}
+use Rattle.hard_items.specs.Run.{items_of, block_items, named}
+use Rattle.hard_items.specs.Forms.{Each, Form, Alone, Product, Store, Test, Output, Takes, Idle, Close, Jump, Branch, Call, Return, Exit, check, check_if, form_items, close_items, block_of, HalfFits, FormFits}
+use Rattle.hard_items.specs.Heads.{head_items, with_heads, headed}
 use Rattle.layout_law.specs.Level.{IsNop, StayFits, ItemFits, Lines}
 
 no_true : true ≡ false → ⊥

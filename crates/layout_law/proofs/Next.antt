@@ -4,15 +4,15 @@ use Rattle.std.proofs.Common.{◌≡◌, ◌≢◌, ◌≤◌, ◌<◌, ℕ, zer
 use Rattle.std.specs.Prelude.{Some, ◌⊎◌}
 use Rattle.mips_isa.specs.declared.instr.Instr.TheVariants.{J, Jal, Break}
 use Rattle.mips_isa.specs.Machine.{is_jump}
-use Rattle.mips_isa.specs.Text.{InText, branch_goal}
-use Rattle.mips_isa.specs.Blocks.{IsStart}
-use Rattle.harden_lint.specs.Typing as typing
-use Rattle.harden_lint.specs.Typing.{IsSlot, Next}
+use Rattle.mips_text.specs.Text.{InText, branch_goal}
+use Rattle.mips_text.specs.Blocks.{IsStart}
+use Rattle.mips_text.specs.Typing as typing
+use Rattle.mips_text.specs.Typing.{IsSlot, Next}
 use Rattle.harden_lint.specs.Rules.{HasInstruction, GoesInside}
-use Rattle.hard_code.specs.declared.code.Fix.TheVariants.{Plain, Function}
-use Rattle.hard_code.specs.declared.code.Item.{Item}
-use Rattle.hard_code.specs.declared.code.HardProgram.{HardProgram}
-use Rattle.hard_code.specs.Run.{items_of, named}
+use Rattle.hard_items.specs.declared.code.Fix.TheVariants.{Plain, Function}
+use Rattle.hard_items.specs.declared.code.Item.{Item}
+use Rattle.hard_items.specs.declared.code.HardProgram.{HardProgram}
+use Rattle.hard_items.specs.Run.{items_of, named}
 use Rattle.layout_law.specs.Layout.{address, filled, text}
 use Rattle.layout_law.specs.Level.{Lines, LastSlot, SkippedSlot, IsNop, IsStop, Layable, Entered}
 use Rattle.layout_law.proofs.Acts.{filled_reads}

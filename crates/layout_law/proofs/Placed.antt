@@ -2,7 +2,7 @@
 use Rattle.std.proofs.Common.{◌≡◌, ◌≢◌, ℕ, suc, ap, refl, sym, ◌∙◌, subst, List, [], ◌∷◌, Bool, true, false, inl, inr}
 use Rattle.std.specs.Prelude.{Option, Some, None, ◌⊎◌, ◌==◌, ◌&&◌, ◌||◌, nat_le}
 use Rattle.hard_words.specs.Words.{extended}
-use Rattle.hard_words.specs.Stepping.{go}
+use Rattle.hard_runs.specs.Stepping.{go}
 use Rattle.mips_isa.specs.declared.instr.Instr.{Instr}
 use Rattle.mips_isa.specs.declared.instr.Instr.TheVariants.{J, Jal, Jr, Beq, Bne, Lw, Sw, Lui, Ori}
 use Rattle.mips_isa.specs.declared.instr.End.{End}
@@ -10,18 +10,18 @@ use Rattle.mips_isa.specs.declared.instr.End.TheVariants.{Exited, Trapped, Starv
 use Rattle.mips_isa.specs.Machine.{State, reg, plus, is_jump, step}
 use Rattle.mips_isa.specs.Runs.{run}
 use Rattle.mips_isa.specs.Image.{boot_state}
-use Rattle.mips_isa.specs.Text.{At}
-use Rattle.mips_isa.specs.Blocks.{IsStart}
-use Rattle.mips_isa.specs.Faults.{in_even, in_odd, Moves, IsPlaced}
-use Rattle.hard_code.specs.declared.code.Fix.{Fix}
-use Rattle.hard_code.specs.declared.code.Fix.TheVariants.{Plain, Block, Function, ReturnHigh, ReturnLow}
-use Rattle.hard_code.specs.declared.code.Item.{Item}
-use Rattle.hard_code.specs.declared.code.HardProgram.{HardProgram}
-use Rattle.hard_code.specs.Streams.{touched, is_master, is_shadow}
-use Rattle.hard_code.specs.Run.{Data, Spot, Way, items, first_spot, held}
-use Rattle.hard_code.specs.Forms.{Each, HalvesPair, HalvesAt}
-use Rattle.hard_code.specs.Rules as rules
-use Rattle.hard_code.specs.Rules.{Lawful, LawfulNext, LawfulAt, Parity, Reads, Returns}
+use Rattle.mips_text.specs.Text.{At}
+use Rattle.mips_text.specs.Blocks.{IsStart}
+use Rattle.mips_faults.specs.Faults.{in_even, in_odd, Moves, IsPlaced}
+use Rattle.hard_items.specs.declared.code.Fix.{Fix}
+use Rattle.hard_items.specs.declared.code.Fix.TheVariants.{Plain, Block, Function, ReturnHigh, ReturnLow}
+use Rattle.hard_items.specs.declared.code.Item.{Item}
+use Rattle.hard_items.specs.declared.code.HardProgram.{HardProgram}
+use Rattle.hard_items.specs.Streams.{touched, is_master, is_shadow}
+use Rattle.hard_items.specs.Run.{Data, Spot, Way, items, first_spot, held}
+use Rattle.hard_items.specs.Forms.{Each, HalvesPair, HalvesAt}
+use Rattle.hard_items.specs.Rules as rules
+use Rattle.hard_items.specs.Rules.{Lawful, LawfulNext, LawfulAt, Parity, Reads, Returns}
 use Rattle.layout_law.specs.Layout.{address, filled, text, image}
 use Rattle.layout_law.specs.Level.{Lines, StayFits, ItemFits, Layable, Entered, worth, SameEnd, Level, InStep}
 use Rattle.layout_law.specs.Typed.{LaidPlaced, LaidUnreported}

@@ -3,9 +3,9 @@ use Rattle.std.proofs.Common.{◌≡◌, ℕ, zero, suc, ◌+◌, ◌%◌, refl,
 use Rattle.std.specs.Prelude.{Option, Some, None, slice_index, slice_set, ◌==◌, ◌&&◌, not, nat_le, nat_lt, ℤ, ◌+ℤ◌, ◌-ℤ◌}
 use Rattle.std.specs.Int.{cast_unsigned, w32}
 use Rattle.hard_words.specs.Words.{extended, signed}
-use Rattle.hard_words.specs.Observed.{Prefix}
-use Rattle.hard_words.proofs.Observed.{prefix_reflexive}
-use Rattle.hard_words.specs.Stepping.{go, Always}
+use Rattle.hard_runs.specs.Observed.{Prefix}
+use Rattle.hard_runs.proofs.Observed.{prefix_reflexive}
+use Rattle.hard_runs.specs.Stepping.{go, Always}
 use Rattle.mips_isa.specs.declared.instr.Instr.{Instr}
 use Rattle.mips_isa.specs.declared.instr.Instr.TheVariants.{Break, Add, Sub, Addi, Beq, Bne}
 use Rattle.mips_isa.specs.declared.instr.Act.{Act}
@@ -15,12 +15,12 @@ use Rattle.mips_isa.specs.declared.instr.End.TheVariants.{Exited, Trapped, Starv
 use Rattle.mips_isa.specs.Machine.{State, reg, perform, act, checked, fits_signed, branch, moved, with_reg, in_memory, place}
 use Rattle.mips_isa.specs.Runs.{run}
 use Rattle.mips_isa.specs.Image.{boot_state}
-use Rattle.hard_code.specs.declared.code.Fix.{Fix}
-use Rattle.hard_code.specs.declared.code.Fix.TheVariants.{Plain, Block, Function, ReturnHigh, ReturnLow}
-use Rattle.hard_code.specs.declared.code.Item.{Item}
-use Rattle.hard_code.specs.declared.code.HardProgram.{HardProgram}
-use Rattle.hard_code.specs.Run.{Data, Spot, Way, Onward, Over, To, items, before, arrived, settled, first_spot, item_run, item_act, completed, numbered, machine_of, way_of}
-use Rattle.hard_code.specs.Rules.{LawfulNext, LawfulAt}
+use Rattle.hard_items.specs.declared.code.Fix.{Fix}
+use Rattle.hard_items.specs.declared.code.Fix.TheVariants.{Plain, Block, Function, ReturnHigh, ReturnLow}
+use Rattle.hard_items.specs.declared.code.Item.{Item}
+use Rattle.hard_items.specs.declared.code.HardProgram.{HardProgram}
+use Rattle.hard_items.specs.Run.{Data, Spot, Way, Onward, Over, To, items, before, arrived, settled, first_spot, item_run, item_act, completed, numbered, machine_of, way_of}
+use Rattle.hard_items.specs.Rules.{LawfulNext, LawfulAt}
 use Rattle.layout_law.specs.Layout.{image}
 use Rattle.layout_law.specs.Level.{SameEnd, InStep, WordsSame}
 use Rattle.layout_law.proofs.Arrive.{spot}
@@ -108,7 +108,7 @@ end_arrived p Over own b (i ∷ j ∷ more) d = refl
 end_arrived p (To t) own b more d = refl
 
 settled_end : (p : HardProgram) (s : Spot) (i : Item) (more : List Item) (a : Act) (r : State × Option ℕ) (e : Option End) → (settled p s i more a r e).0.end ≡ e
-settled_end p s i more a r None = end_arrived p s.way (way_of p i s.now i.instr) s.block more (Rattle.hard_code.specs.Run.data_after i a s.now r.0)
+settled_end p s i more a r None = end_arrived p s.way (way_of p i s.now i.instr) s.block more (Rattle.hard_items.specs.Run.data_after i a s.now r.0)
 settled_end p s i more a r (Some e) = refl
 
 no_exception_by : (o : Option End) → ((c at : ℕ) → o ≡ Some (Exception c at) → ⊥) → (IsHazard o → ⊥) → IsFault o → ⊥

@@ -4,25 +4,25 @@ use Rattle.std.specs.Prelude.{Option, Some, None, ◌⊎◌, ◌==◌, ◌&&◌,
 use Rattle.mips_isa.specs.declared.instr.Instr.{Instr}
 use Rattle.mips_isa.specs.declared.instr.Instr.TheVariants.{J, Jal, Jr, Beq, Bne, Break, Syscall, Sw, Ori, Addu, Xori, Xor}
 use Rattle.mips_isa.specs.Machine.{reads_of, writes_of}
-use Rattle.mips_isa.specs.Text.{At}
-use Rattle.harden_lint.specs.Typing.{Role, master, shadow, signs, role_of, Of}
-use Rattle.harden_lint.specs.Forms.{IsPair, OutputAt, ExitAt, InputAt, WordOf}
-use Rattle.harden_lint.specs.Forms as lint_forms
+use Rattle.mips_text.specs.Text.{At}
+use Rattle.mips_text.specs.Typing.{Role, master, shadow, signs, role_of, Of}
+use Rattle.mips_text.specs.Forms.{IsPair, OutputAt, ExitAt, InputAt, WordOf}
+use Rattle.mips_text.specs.Forms as lint_forms
 use Rattle.harden_lint.specs.Rules.{KeepsForms}
-use Rattle.mips_isa.specs.Text.{Uses, used_of}
-use Rattle.mips_isa.specs.Blocks.{IsStart, HeadAt}
-use Rattle.hard_code.specs.declared.code.Class.{Class}
-use Rattle.hard_code.specs.declared.code.Class.TheVariants.{Check, Act, Input, Head}
-use Rattle.hard_code.specs.declared.code.Fix.TheVariants.{Plain, Block, Function}
-use Rattle.hard_code.specs.declared.code.Item.{Item}
-use Rattle.hard_code.specs.declared.code.HardProgram.{HardProgram}
-use Rattle.hard_code.specs.declared.code.Mark.{Mark}
-use Rattle.hard_code.specs.declared.code.Signed.{Signed}
-use Rattle.hard_code.specs.Streams.{nop, plain, shadow_of, touched}
-use Rattle.hard_code.specs.Run.{items_of}
-use Rattle.hard_code.specs.Forms.{Each, service_number, going, is_value, CloseFits, Form, Alone, Product, Store, Test, Output, Takes, Idle, Close, Jump, Branch, Call, Return, Exit, form_items, close_items, block_of, MayTouch, FormFits, HasChecks, CloseHasChecks}
-use Rattle.hard_code.specs.Rules.{Checked, Guarded}
-use Rattle.hard_code.specs.Heads.{head_items, headed}
+use Rattle.mips_text.specs.Text.{Uses, used_of}
+use Rattle.mips_text.specs.Blocks.{IsStart, HeadAt}
+use Rattle.hard_items.specs.declared.code.Class.{Class}
+use Rattle.hard_items.specs.declared.code.Class.TheVariants.{Check, Act, Input, Head}
+use Rattle.hard_items.specs.declared.code.Fix.TheVariants.{Plain, Block, Function}
+use Rattle.hard_items.specs.declared.code.Item.{Item}
+use Rattle.hard_items.specs.declared.code.HardProgram.{HardProgram}
+use Rattle.hard_items.specs.declared.code.Mark.{Mark}
+use Rattle.hard_items.specs.declared.code.Signed.{Signed}
+use Rattle.hard_items.specs.Streams.{nop, plain, shadow_of, touched}
+use Rattle.hard_items.specs.Run.{items_of}
+use Rattle.hard_items.specs.Forms.{Each, service_number, going, is_value, CloseFits, Form, Alone, Product, Store, Test, Output, Takes, Idle, Close, Jump, Branch, Call, Return, Exit, form_items, close_items, block_of, MayTouch, FormFits, HasChecks, CloseHasChecks}
+use Rattle.hard_items.specs.Rules.{Checked, Guarded}
+use Rattle.hard_items.specs.Heads.{head_items, headed}
 use Rattle.layout_law.specs.Layout.{address, filled, text}
 use Rattle.layout_law.specs.Level.{Layable, Entered}
 use Rattle.layout_law.proofs.Views.{ItemWord, item_word, at_item, next_item, in_text}
@@ -340,5 +340,5 @@ keeps_forms s l n e g a = record {
       let w : ItemWord (headed s) a = item_word (headed s) a (in_text (text (headed s)) a u.instr u.at) in
       let h : w.block < length s.program.blocks = subst (λ (z : ℕ). w.block < z) (heads_length s.program.blocks s.marks) w.there in
       block_serves (slice_get s.marks w.block) (items_of s.program w.block) (g w.block h) (headed s) l a w (sym (items_headed s w.block h) ∙ w.split) u;
-  starts = λ t k w. let h : (h : Rattle.mips_isa.specs.Blocks.Head) × HeadAt (text (headed s)) a h = has_head s l n e a t in no_inner (text (headed s)) a k (h.0).d h.1.differs w;
+  starts = λ t k w. let h : (h : Rattle.mips_text.specs.Blocks.Head) × HeadAt (text (headed s)) a h = has_head s l n e a t in no_inner (text (headed s)) a k (h.0).d h.1.differs w;
 }

@@ -1,16 +1,16 @@
 -- The laws of a signed program.
 use Rattle.std.proofs.Common.{◌≡◌, ◌<◌, ℕ, suc, ◌+◌, ◌*◌, arith, ap, refl, sym, ◌∙◌, subst, List, [], ◌∷◌, length, inl, inr}
 use Rattle.std.specs.Prelude.{◌↔◌}
-use Rattle.hard_words.specs.Stepping.{Always}
+use Rattle.hard_runs.specs.Stepping.{Always}
 use Rattle.hard_words.specs.Words.{AreWords}
 use Rattle.mips_isa.specs.declared.instr.End.TheVariants.{Reported}
-use Rattle.mips_isa.specs.Blocks.{IsStart}
-use Rattle.hard_code.specs.declared.code.HardBlock.{HardBlock}
-use Rattle.hard_code.specs.declared.code.Mark.{Mark}
-use Rattle.hard_code.specs.declared.code.Signed.{Signed}
-use Rattle.hard_code.specs.Run.{items, first_spot}
-use Rattle.hard_code.specs.Heads.{head_items, with_heads, headed}
-use Rattle.hard_code.specs.Rules.{LawfulAt}
+use Rattle.mips_text.specs.Blocks.{IsStart}
+use Rattle.hard_items.specs.declared.code.HardBlock.{HardBlock}
+use Rattle.hard_items.specs.declared.code.Mark.{Mark}
+use Rattle.hard_items.specs.declared.code.Signed.{Signed}
+use Rattle.hard_items.specs.Run.{items, first_spot}
+use Rattle.hard_items.specs.Heads.{head_items, with_heads, headed}
+use Rattle.hard_items.specs.Rules.{LawfulAt}
 use Rattle.layout_law.specs.Layout.{words, address, text}
 use Rattle.layout_law.specs.Laws.{Prepared, HeadsFollow, HeadsNeverReport, SignedInStep, SignedWordsSame, TextLength, StartsAreBlocks, WordsArePlaced, WordsNeverReport}
 use Rattle.layout_law.proofs.Texts.{words_cons, length_text}

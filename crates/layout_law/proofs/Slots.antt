@@ -5,23 +5,23 @@ use Rattle.mips_isa.specs.declared.instr.Instr.{Instr}
 use Rattle.mips_isa.specs.declared.instr.Instr.TheVariants.{J, Jal, Jr, Beq, Bne, Break, Syscall, Lw, Sw, Ori, Lui, Xor}
 use Rattle.mips_isa.specs.Machine.{is_jump, is_product}
 use Rattle.mips_isa.specs.Locality.{is_data, is_move}
-use Rattle.mips_isa.specs.Text.{At}
-use Rattle.mips_isa.specs.Faults.{in_even, in_odd}
-use Rattle.harden_lint.specs.Forms.{OutputAt, ExitAt}
+use Rattle.mips_text.specs.Text.{At}
+use Rattle.mips_faults.specs.Faults.{in_even, in_odd}
+use Rattle.mips_text.specs.Forms.{OutputAt, ExitAt}
 use Rattle.harden_lint.specs.Rules.{MovesHeld, IsChoosing, KeepsSlot}
-use Rattle.hard_code.specs.declared.code.Class.{Class}
-use Rattle.hard_code.specs.declared.code.Class.TheVariants.{Check, Act, Head}
-use Rattle.hard_code.specs.declared.code.Fix.{Fix}
-use Rattle.hard_code.specs.declared.code.Fix.TheVariants.{Plain, Block, Function, ReturnHigh, ReturnLow}
-use Rattle.hard_code.specs.declared.code.Item.{Item}
-use Rattle.hard_code.specs.declared.code.HardProgram.{HardProgram}
-use Rattle.hard_code.specs.declared.code.Mark.{Mark}
-use Rattle.hard_code.specs.declared.code.Signed.{Signed}
-use Rattle.hard_code.specs.Streams.{nop, plain, shadow_of}
-use Rattle.hard_code.specs.Run.{items_of}
-use Rattle.hard_code.specs.Forms.{Each, Form, Alone, Product, Store, Test, Output, Takes, Idle, Close, Jump, Branch, Call, Return, Exit, check_if, form_items, close_items, block_of, is_value, is_carried, LoadFits, FormFits, HasChecks, CloseHasChecks, Formed}
-use Rattle.hard_code.specs.Rules.{Checked, Guarded}
-use Rattle.hard_code.specs.Heads.{head_items, headed}
+use Rattle.hard_items.specs.declared.code.Class.{Class}
+use Rattle.hard_items.specs.declared.code.Class.TheVariants.{Check, Act, Head}
+use Rattle.hard_items.specs.declared.code.Fix.{Fix}
+use Rattle.hard_items.specs.declared.code.Fix.TheVariants.{Plain, Block, Function, ReturnHigh, ReturnLow}
+use Rattle.hard_items.specs.declared.code.Item.{Item}
+use Rattle.hard_items.specs.declared.code.HardProgram.{HardProgram}
+use Rattle.hard_items.specs.declared.code.Mark.{Mark}
+use Rattle.hard_items.specs.declared.code.Signed.{Signed}
+use Rattle.hard_items.specs.Streams.{nop, plain, shadow_of}
+use Rattle.hard_items.specs.Run.{items_of}
+use Rattle.hard_items.specs.Forms.{Each, Form, Alone, Product, Store, Test, Output, Takes, Idle, Close, Jump, Branch, Call, Return, Exit, check_if, form_items, close_items, block_of, is_value, is_carried, LoadFits, FormFits, HasChecks, CloseHasChecks, Formed}
+use Rattle.hard_items.specs.Rules.{Checked, Guarded}
+use Rattle.hard_items.specs.Heads.{head_items, headed}
 use Rattle.layout_law.specs.Layout.{filled, text}
 use Rattle.layout_law.specs.Level.{Layable, Entered}
 use Rattle.layout_law.proofs.Views.{ItemWord, item_word, at_item, next_item, in_text}

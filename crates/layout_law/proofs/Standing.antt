@@ -4,15 +4,15 @@ use Rattle.std.specs.Prelude.{Some, None, slice_get, ◌==◌}
 use Rattle.std.proofs.Math.Seq.{get_or-append_seam}
 use Rattle.mips_isa.specs.declared.instr.Instr.{Instr}
 use Rattle.mips_isa.specs.Machine.{is_jump}
-use Rattle.hard_code.specs.declared.code.Fix.{Fix}
-use Rattle.hard_code.specs.declared.code.Fix.TheVariants.{Function}
-use Rattle.hard_code.specs.declared.code.Item.{Item}
-use Rattle.hard_code.specs.declared.code.HardProgram.{HardProgram}
-use Rattle.hard_code.specs.Run.{Data, Way, Onward, Over, To, items_of, named, branch_way, way_of, held, at_block, arrived}
-use Rattle.hard_code.specs.Ways as ways
-use Rattle.hard_code.specs.Ways.{Holds, MayFollow}
-use Rattle.hard_code.specs.Counts.{is_break}
-use Rattle.hard_code.specs.Rules.{Lawful}
+use Rattle.hard_items.specs.declared.code.Fix.{Fix}
+use Rattle.hard_items.specs.declared.code.Fix.TheVariants.{Function}
+use Rattle.hard_items.specs.declared.code.Item.{Item}
+use Rattle.hard_items.specs.declared.code.HardProgram.{HardProgram}
+use Rattle.hard_items.specs.Run.{Data, Way, Onward, Over, To, items_of, named, branch_way, way_of, held, at_block, arrived}
+use Rattle.hard_items.specs.Ways as ways
+use Rattle.hard_items.specs.Ways.{Holds, MayFollow}
+use Rattle.hard_items.specs.Counts.{is_break}
+use Rattle.hard_items.specs.Rules.{Lawful}
 use Rattle.layout_law.specs.Level.{LastSlot, SkippedSlot, Lines, SlotSame}
 use Rattle.layout_law.proofs.Arrive.{spot, stop_is_break}
 use Rattle.layout_law.proofs.Step.{jump_fits}
@@ -103,7 +103,7 @@ branch_way_stands_ne p b f more false h k = h
 pub way_stands : (p : HardProgram) (b : ℕ) (i : Item) (more : List Item) (d : Data) → Holds p b i → Lawful p b i d → ((f : ℕ) → i.fix ≡ Function f → slice_get p.entries f ≡ Some (named p (Function f))) → is_jump i.instr ≡ true → View p i.fix i.instr more → WayStands p b (way_of p i d i.instr) true more × SlotSame true more
 way_stands p b i more d h l g j (view.jumps t tg f x k n) = (subst (λ (z : Instr). WayStands p b (way_of p i d z) true more) (sym x) (subst (λ (z : Fix). WayStands p b (To (named p z)) true more) (sym f) (ways.jumped t tg i h x f, n)), last_free more n)
 way_stands p b i more d h l g j (view.calls c tg f x k n) = (subst (λ (z : Instr). WayStands p b (way_of p i d z) true more) (sym x) (subst (λ (z : Fix). WayStands p b (To (named p z)) true more) (sym f) (ways.called c (named p (Function c)) (record { item = i; target = tg; holds = h; jumps = x; names = f }) (g c f), n)), last_free more n)
-way_stands p b i more d h l g j (view.returns rs f x n) = (subst (λ (z : Instr). WayStands p b (way_of p i d z) true more) (sym x) ((subst (λ (z : Instr). Rattle.hard_code.specs.Rules.Returns p b z d) x l.returns).1, n), last_free more n)
+way_stands p b i more d h l g j (view.returns rs f x n) = (subst (λ (z : Instr). WayStands p b (way_of p i d z) true more) (sym x) ((subst (λ (z : Instr). Rattle.hard_items.specs.Rules.Returns p b z d) x l.returns).1, n), last_free more n)
 way_stands p b i more d h l g j (view.skips rs rt f (inl x) n) = (subst (λ (z : Instr). WayStands p b (way_of p i d z) true more) (sym x) (branch_way_stands p b i.fix more (held d rs == held d rt) (subst (λ (z : Fix). WayStands p b (branch_way z) true more) (sym f) n) (λ u v. absurd (not_both more n v))), skipped_free more n)
 way_stands p b i more d h l g j (view.skips rs rt f (inr x) n) = (subst (λ (z : Instr). WayStands p b (way_of p i d z) true more) (sym x) (branch_way_stands_ne p b i.fix more (held d rs == held d rt) (subst (λ (z : Fix). WayStands p b (branch_way z) true more) (sym f) n) (λ u v. absurd (not_both more n v))), skipped_free more n)
 way_stands p b i more d h l g j (view.branches t rs rt imm f (inl x) k n) = (subst (λ (z : Instr). WayStands p b (way_of p i d z) true more) (sym x) (branch_way_stands p b i.fix more (held d rs == held d rt) (subst (λ (z : Fix). WayStands p b (branch_way z) true more) (sym f) (ways.branched_eq t rs rt imm i h x f, n)) (λ u v. ways.fallen_eq t rs rt imm i h x f)), last_free more n)

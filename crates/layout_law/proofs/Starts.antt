@@ -5,14 +5,14 @@ use Rattle.hard_words.specs.Words.{extended}
 use Rattle.mips_isa.specs.declared.instr.Instr.{Instr}
 use Rattle.mips_isa.specs.declared.instr.Instr.TheVariants.{J, Jal, Jr, Beq, Bne, Break, Lui, Ori}
 use Rattle.mips_isa.specs.Machine.{plus, is_jump}
-use Rattle.mips_isa.specs.Text.{At, IsBranch, BranchAt, SkipsBreak, branch_goal, jump_goal}
-use Rattle.mips_isa.specs.Blocks.{ForkAt, IsStart, begins, jumped, called, returned, taken, passed}
-use Rattle.hard_code.specs.declared.code.Fix.{Fix}
-use Rattle.hard_code.specs.declared.code.Fix.TheVariants.{Plain, Block, Function, ReturnHigh, ReturnLow}
-use Rattle.hard_code.specs.declared.code.Item.{Item}
-use Rattle.hard_code.specs.declared.code.HardProgram.{HardProgram}
-use Rattle.hard_code.specs.Run.{items_of, named}
-use Rattle.hard_code.specs.Ways.{CallsFunction}
+use Rattle.mips_text.specs.Text.{At, IsBranch, BranchAt, SkipsBreak, branch_goal, jump_goal}
+use Rattle.mips_text.specs.Blocks.{ForkAt, IsStart, begins, jumped, called, returned, taken, passed}
+use Rattle.hard_items.specs.declared.code.Fix.{Fix}
+use Rattle.hard_items.specs.declared.code.Fix.TheVariants.{Plain, Block, Function, ReturnHigh, ReturnLow}
+use Rattle.hard_items.specs.declared.code.Item.{Item}
+use Rattle.hard_items.specs.declared.code.HardProgram.{HardProgram}
+use Rattle.hard_items.specs.Run.{items_of, named}
+use Rattle.hard_items.specs.Ways.{CallsFunction}
 use Rattle.layout_law.specs.Layout.{address, offset, Reaches, filled, text}
 use Rattle.layout_law.specs.Level.{LastSlot, SkippedSlot, IsStop, FieldReaches, Layable, Entered}
 use Rattle.layout_law.proofs.Texts.{address_next}

@@ -11,17 +11,17 @@ use Rattle.mips_isa.specs.Machine as machine
 use Rattle.mips_isa.specs.Machine.{State, reg, plus, perform, act, branch, branch_target, jump_target, is_jump, planned, row_act, reads_of, written}
 use Rattle.mips_isa.specs.Table.{IsInRange}
 use Rattle.mips_isa.specs.Locality.{Asks}
-use Rattle.mips_isa.proofs.Locality.{asks}
-use Rattle.hard_code.specs.declared.code.Class.{Class}
-use Rattle.hard_code.specs.declared.code.Fix.{Fix}
-use Rattle.hard_code.specs.declared.code.Fix.TheVariants.{Plain, Block, Function, ReturnHigh, ReturnLow}
-use Rattle.hard_code.specs.declared.code.Item.{Item}
-use Rattle.hard_code.specs.declared.code.HardProgram.{HardProgram}
-use Rattle.hard_code.specs.Streams.{nop, touched}
-use Rattle.hard_code.specs.Run.{Data, Way, items_of, item_act, numbered, machine_of, held, makes_number, is_call}
-use Rattle.hard_code.specs.Forms.{Each, HalvesPair, HalvesAt}
-use Rattle.hard_code.specs.Counts.{loaded, quiet_after, is_break, may_stand}
-use Rattle.hard_code.specs.Rules.{Reads}
+use Rattle.mips_laws.proofs.Locality.{asks}
+use Rattle.hard_items.specs.declared.code.Class.{Class}
+use Rattle.hard_items.specs.declared.code.Fix.{Fix}
+use Rattle.hard_items.specs.declared.code.Fix.TheVariants.{Plain, Block, Function, ReturnHigh, ReturnLow}
+use Rattle.hard_items.specs.declared.code.Item.{Item}
+use Rattle.hard_items.specs.declared.code.HardProgram.{HardProgram}
+use Rattle.hard_items.specs.Streams.{nop, touched}
+use Rattle.hard_items.specs.Run.{Data, Way, items_of, item_act, numbered, machine_of, held, makes_number, is_call}
+use Rattle.hard_items.specs.Forms.{Each, HalvesPair, HalvesAt}
+use Rattle.hard_items.specs.Counts.{loaded, quiet_after, is_break, may_stand}
+use Rattle.hard_items.specs.Rules.{Reads}
 use Rattle.layout_law.specs.Layout.{address, filled, text}
 use Rattle.layout_law.specs.Level.{Lines, ItemFits, StayFits, FieldReaches, AllReach, Layable, SameData, SamePlace}
 use Rattle.layout_law.proofs.Texts.{address_next}

@@ -4,10 +4,10 @@ use Rattle.std.specs.Prelude.{Some, None, slice_get, slice_index}
 use Rattle.std.proofs.lemmas.List.Sums.{sum_by-cons, sum_by-append}
 use Rattle.std.proofs.Math.Seq.{get_or-append_seam}
 use Rattle.mips_isa.specs.Table.{encoding}
-use Rattle.hard_code.specs.declared.code.Item.{Item}
-use Rattle.hard_code.specs.declared.code.HardBlock.{HardBlock}
-use Rattle.hard_code.specs.declared.code.HardProgram.{HardProgram}
-use Rattle.hard_code.specs.Run.{items_of, block_items}
+use Rattle.hard_items.specs.declared.code.Item.{Item}
+use Rattle.hard_items.specs.declared.code.HardBlock.{HardBlock}
+use Rattle.hard_items.specs.declared.code.HardProgram.{HardProgram}
+use Rattle.hard_items.specs.Run.{items_of, block_items}
 use Rattle.layout_law.specs.Layout.{words, address, filled, items_words, blocks_words, text}
 
 -- ---- lengths

@@ -1,5 +1,5 @@
 -- The words of a guarded program with heads are well typed.
-use Rattle.hard_code.specs.Heads.{headed}
+use Rattle.hard_items.specs.Heads.{headed}
 use Rattle.layout_law.specs.Level.{Layable, Entered}
 use Rattle.layout_law.specs.Typed.{WordsAreTyped}
 use Rattle.layout_law.proofs.Laying.{can_be_laid}

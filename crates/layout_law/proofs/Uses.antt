@@ -5,22 +5,22 @@ use Rattle.mips_isa.specs.declared.instr.Instr.{Instr}
 use Rattle.mips_isa.specs.declared.instr.Instr.TheVariants.{J, Jal, Jr, Beq, Bne, Break, Syscall, Sw, Ori, Addu, Xori, Xor}
 use Rattle.mips_isa.specs.Machine.{is_product}
 use Rattle.mips_isa.specs.Locality.{is_data, is_move}
-use Rattle.mips_isa.specs.Text.{At, IsBranch, SkipsReport}
-use Rattle.harden_lint.specs.Forms.{IsPair, InputAt}
-use Rattle.harden_lint.specs.Forms as lint_forms
+use Rattle.mips_text.specs.Text.{At, IsBranch, SkipsReport}
+use Rattle.mips_text.specs.Forms.{IsPair, InputAt}
+use Rattle.mips_text.specs.Forms as lint_forms
 use Rattle.harden_lint.specs.Rules.{IsChecked, IsTaking}
-use Rattle.hard_code.specs.declared.code.Class.{Class}
-use Rattle.hard_code.specs.declared.code.Class.TheVariants.{Check, Act, Input, Head}
-use Rattle.hard_code.specs.declared.code.Fix.TheVariants.{Plain, Block, Function}
-use Rattle.hard_code.specs.declared.code.Item.{Item}
-use Rattle.hard_code.specs.declared.code.HardProgram.{HardProgram}
-use Rattle.hard_code.specs.declared.code.Mark.{Mark}
-use Rattle.hard_code.specs.declared.code.Signed.{Signed}
-use Rattle.hard_code.specs.Streams.{nop, plain, shadow_of}
-use Rattle.hard_code.specs.Run.{items_of}
-use Rattle.hard_code.specs.Forms.{Each, Form, Alone, Product, Store, Test, Output, Takes, Idle, Close, Jump, Branch, Call, Return, Exit, check, service_number, form_items, close_items, block_of, going, is_value, FormFits, CloseFits, HasChecks, CloseHasChecks}
-use Rattle.hard_code.specs.Rules.{Checked, Guarded}
-use Rattle.hard_code.specs.Heads.{head_items, headed}
+use Rattle.hard_items.specs.declared.code.Class.{Class}
+use Rattle.hard_items.specs.declared.code.Class.TheVariants.{Check, Act, Input, Head}
+use Rattle.hard_items.specs.declared.code.Fix.TheVariants.{Plain, Block, Function}
+use Rattle.hard_items.specs.declared.code.Item.{Item}
+use Rattle.hard_items.specs.declared.code.HardProgram.{HardProgram}
+use Rattle.hard_items.specs.declared.code.Mark.{Mark}
+use Rattle.hard_items.specs.declared.code.Signed.{Signed}
+use Rattle.hard_items.specs.Streams.{nop, plain, shadow_of}
+use Rattle.hard_items.specs.Run.{items_of}
+use Rattle.hard_items.specs.Forms.{Each, Form, Alone, Product, Store, Test, Output, Takes, Idle, Close, Jump, Branch, Call, Return, Exit, check, service_number, form_items, close_items, block_of, going, is_value, FormFits, CloseFits, HasChecks, CloseHasChecks}
+use Rattle.hard_items.specs.Rules.{Checked, Guarded}
+use Rattle.hard_items.specs.Heads.{head_items, headed}
 use Rattle.layout_law.specs.Layout.{address, text, offset}
 use Rattle.layout_law.specs.Level.{Layable, Entered}
 use Rattle.layout_law.proofs.Views.{ItemWord, item_word, at_item, next_item, in_text}
@@ -149,7 +149,7 @@ second_store_by d v v' b o o' mo f p l n a w front rest e g h r q =
 -- the branch of a test
 test_branch_by : (m : ℕ) (mo : List Item) → PairFits m → KeepsBy (check m (shadow_of m)) (plain (Bne m 0 2) Act) mo
 test_branch_by m mo f p l n a w front rest e g h r q =
-    elim (branch_register (text p) a m 2 r (Bne m 0 2) (plain_at p l a w (Bne m 0 2) Act g) (inr refl) q) as (λ z. (r ≡ 0) ⊎ (Rattle.harden_lint.specs.Typing.IsGuarded (text p) 0x00400000 a r ⊎ IsTaking (text p) a)) [
+    elim (branch_register (text p) a m 2 r (Bne m 0 2) (plain_at p l a w (Bne m 0 2) Act g) (inr refl) q) as (λ z. (r ≡ 0) ⊎ (Rattle.mips_text.specs.Typing.IsGuarded (text p) 0x00400000 a r ⊎ IsTaking (text p) a)) [
       | inl z ↦ inl z
       | inr z ↦ inr (inl (behind_guarded p l n a m r w front (plain (Beq m (shadow_of m) 2) Check) (plain nop Check) (plain (Break 1) Check) f e refl refl (refl, inl refl) refl refl (inl z) q))
     ]
@@ -158,7 +158,7 @@ test_branch_by m mo f p l n a w front rest e g h r q =
 close_branch_by : (m t : ℕ) (x : Instr) (imm : ℕ) (mo : List Item) → IsBranch x m 0 imm → PairFits m → KeepsBy (check m (shadow_of m)) (going x (Block t)) mo
 close_branch_by m t x imm mo o f p l n a w front rest e g h r q =
     let c : (i : Instr) × (At (text p) a i × IsBranch i m 0 (offset (a + 4) (address p t))) = stands o in
-    elim (branch_register (text p) a m (offset (a + 4) (address p t)) r c.0 c.1.0 c.1.1 q) as (λ z. (r ≡ 0) ⊎ (Rattle.harden_lint.specs.Typing.IsGuarded (text p) 0x00400000 a r ⊎ IsTaking (text p) a)) [
+    elim (branch_register (text p) a m (offset (a + 4) (address p t)) r c.0 c.1.0 c.1.1 q) as (λ z. (r ≡ 0) ⊎ (Rattle.mips_text.specs.Typing.IsGuarded (text p) 0x00400000 a r ⊎ IsTaking (text p) a)) [
       | inl z ↦ inl z
       | inr z ↦ inr (inl (behind_guarded p l n a m r w front (plain (Beq m (shadow_of m) 2) Check) (plain nop Check) (plain (Break 1) Check) f e refl refl (refl, inl refl) refl refl (inl z) q))
     ]

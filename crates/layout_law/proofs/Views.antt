@@ -6,16 +6,16 @@ use Rattle.mips_isa.specs.declared.instr.Instr.{Instr}
 use Rattle.mips_isa.specs.declared.instr.Instr.TheVariants.{J, Jal, Jr, Beq, Bne, Break, Lui, Ori}
 use Rattle.mips_isa.specs.Table.{encoding, decoded, IsInRange}
 use Rattle.mips_isa.specs.Machine.{text_place, is_jump}
-use Rattle.mips_isa.specs.Text.{InText, instr_at, At, IsBranch}
+use Rattle.mips_text.specs.Text.{InText, instr_at, At, IsBranch}
 use Rattle.mips_isa.proofs.Inverse.{decodes_encoded}
-use Rattle.hard_code.specs.declared.code.Fix.{Fix}
-use Rattle.hard_code.specs.declared.code.Fix.TheVariants.{Plain, Block, Function, ReturnHigh, ReturnLow}
-use Rattle.hard_code.specs.declared.code.Item.{Item}
-use Rattle.hard_code.specs.declared.code.HardBlock.{HardBlock}
-use Rattle.hard_code.specs.declared.code.HardProgram.{HardProgram}
-use Rattle.hard_code.specs.Run.{items_of, named}
-use Rattle.hard_code.specs.Ways.{Holds}
-use Rattle.hard_code.specs.Forms.{Each}
+use Rattle.hard_items.specs.declared.code.Fix.{Fix}
+use Rattle.hard_items.specs.declared.code.Fix.TheVariants.{Plain, Block, Function, ReturnHigh, ReturnLow}
+use Rattle.hard_items.specs.declared.code.Item.{Item}
+use Rattle.hard_items.specs.declared.code.HardBlock.{HardBlock}
+use Rattle.hard_items.specs.declared.code.HardProgram.{HardProgram}
+use Rattle.hard_items.specs.Run.{items_of, named}
+use Rattle.hard_items.specs.Ways.{Holds}
+use Rattle.hard_items.specs.Forms.{Each}
 use Rattle.layout_law.specs.Layout.{words, address, filled, text}
 use Rattle.layout_law.specs.Level.{Lines, ItemFits, StayFits, BranchFits, JumpFits, CallFits, LastSlot, SkippedSlot, FieldReaches, AllReach, Layable}
 use Rattle.layout_law.proofs.Texts.{WordAt, word_at, words_cons, length_text, items_are}
@@ -145,7 +145,7 @@ reach_by p at (j ∷ done) i more h = subst (λ (z : ℕ). FieldReaches p z i.fi
 -- An item fits what stands behind it, whatever stands before it.
 pub single_fits : (p : HardProgram) (slot : Bool) (i : Item) → Lines p slot (i ∷ []) → ItemFits p i.fix i.instr []
 single_fits p slot i h = elim h as (λ z. ItemFits p i.fix i.instr []) [
-  | inl z ↦ subst (λ (x : Instr). ItemFits p i.fix x []) (sym z.1.nop) (subst (λ (f : Fix). StayFits f Rattle.hard_code.specs.Streams.nop) (sym z.1.no_field) tt)
+  | inl z ↦ subst (λ (x : Instr). ItemFits p i.fix x []) (sym z.1.nop) (subst (λ (f : Fix). StayFits f Rattle.hard_items.specs.Streams.nop) (sym z.1.no_field) tt)
   | inr z ↦ subst (λ (x : Instr). ItemFits p i.fix x []) (sym z.stop) (subst (λ (f : Fix). StayFits f (Break z.code)) (sym z.no_field) tt)
 ]
 

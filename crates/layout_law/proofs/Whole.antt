@@ -1,7 +1,7 @@
 -- The whole run: the words go in step with the items.
 use Rattle.std.proofs.Common.{◌≡◌, ◌<◌, ℕ, zero, suc, ◌+◌, ◌*◌, arith, ap, refl, sym, ◌∙◌, subst, List, [], ◌∷◌, ◌++◌, length, replicate, Bool, true, false}
 use Rattle.std.specs.Prelude.{Option, Some, None, slice_index, slice_get, ◌⊎◌, ◌==◌, ◌&&◌, not}
-use Rattle.hard_words.specs.Stepping.{put, go}
+use Rattle.hard_runs.specs.Stepping.{put, go}
 use Rattle.mips_isa.specs.declared.instr.Instr.{Instr}
 use Rattle.mips_isa.specs.declared.instr.Act.{Act}
 use Rattle.mips_isa.specs.declared.instr.End.{End}
@@ -10,16 +10,16 @@ use Rattle.mips_isa.specs.Machine as machine
 use Rattle.mips_isa.specs.Machine.{State, reg, plus, perform, act, is_jump, planned, step}
 use Rattle.mips_isa.specs.Runs.{run, put_out}
 use Rattle.mips_isa.specs.Image.{boot_state}
-use Rattle.hard_code.specs.declared.code.Class.{Class}
-use Rattle.hard_code.specs.declared.code.Fix.{Fix}
-use Rattle.hard_code.specs.declared.code.Fix.TheVariants.{Plain, Block, Function, ReturnHigh, ReturnLow}
-use Rattle.hard_code.specs.declared.code.Item.{Item}
-use Rattle.hard_code.specs.declared.code.HardBlock.{HardBlock}
-use Rattle.hard_code.specs.declared.code.HardProgram.{HardProgram}
-use Rattle.hard_code.specs.Run.{Data, Spot, Way, Onward, Over, To, items, items_of, block_items, before, at_block, arrived, first_spot, first_data, settled, item_act, machine_of, data_after}
-use Rattle.hard_code.specs.Forms.{HalvesPair}
-use Rattle.hard_code.specs.Counts.{loaded, quiet_after, is_break}
-use Rattle.hard_code.specs.Rules.{LawfulNext, LawfulAt}
+use Rattle.hard_items.specs.declared.code.Class.{Class}
+use Rattle.hard_items.specs.declared.code.Fix.{Fix}
+use Rattle.hard_items.specs.declared.code.Fix.TheVariants.{Plain, Block, Function, ReturnHigh, ReturnLow}
+use Rattle.hard_items.specs.declared.code.Item.{Item}
+use Rattle.hard_items.specs.declared.code.HardBlock.{HardBlock}
+use Rattle.hard_items.specs.declared.code.HardProgram.{HardProgram}
+use Rattle.hard_items.specs.Run.{Data, Spot, Way, Onward, Over, To, items, items_of, block_items, before, at_block, arrived, first_spot, first_data, settled, item_act, machine_of, data_after}
+use Rattle.hard_items.specs.Forms.{HalvesPair}
+use Rattle.hard_items.specs.Counts.{loaded, quiet_after, is_break}
+use Rattle.hard_items.specs.Rules.{LawfulNext, LawfulAt}
 use Rattle.layout_law.specs.Layout.{words, filled, image}
 use Rattle.layout_law.specs.Level.{StayFits, Layable, WaySame, SameEnd, Level, InStep, RunsInStep}
 use Rattle.layout_law.proofs.Data as outcome

@@ -1,16 +1,16 @@
 -- What the words of a signed program keep: the run of its items, the signatures, the rules of the lint, and where its blocks begin.
 use Rattle.std.specs.Prelude.{◌≡◌, ◌<◌, ◌↔◌, ℕ, ◌+◌, ◌*◌, None, List, length}
-use Rattle.hard_words.specs.Observed.{SameObserved}
-use Rattle.hard_words.specs.Stepping.{Always}
+use Rattle.hard_runs.specs.Observed.{SameObserved}
+use Rattle.hard_runs.specs.Stepping.{Always}
 use Rattle.hard_words.specs.Words.{AreWords}
 use Rattle.mips_isa.specs.Runs.{observed}
 use Rattle.mips_isa.specs.Image.{boot_state}
-use Rattle.mips_isa.specs.Faults.{Placed, Unreported}
-use Rattle.mips_isa.specs.Blocks.{IsStart}
-use Rattle.hard_code.specs.declared.code.Signed.{Signed}
-use Rattle.hard_code.specs.Heads.{headed, signed_run}
-use Rattle.hard_code.specs.Run.{items, first_spot, item_run}
-use Rattle.hard_code.specs.Rules.{LawfulAt, NeverReports}
+use Rattle.mips_faults.specs.Faults.{Placed, Unreported}
+use Rattle.mips_text.specs.Blocks.{IsStart}
+use Rattle.hard_items.specs.declared.code.Signed.{Signed}
+use Rattle.hard_items.specs.Heads.{headed, signed_run}
+use Rattle.hard_items.specs.Run.{items, first_spot, item_run}
+use Rattle.hard_items.specs.Rules.{LawfulAt, NeverReports}
 use Rattle.sign_law.specs.Marks.{HasSigns}
 use Rattle.layout_law.specs.Layout.{words, address, text, image}
 use Rattle.layout_law.specs.Level.{Laying, InStep, MarksFit}

@@ -2,8 +2,8 @@
 -- addresses standing for block numbers and return numbers. First what the layout relies on in each block.
 use Rattle.std.specs.Prelude.{◌≡◌, ◌≢◌, ◌≤◌, ◌<◌, ◌⊎◌, ◌↔◌, ℕ, ◌+◌, ◌*◌, ◌/◌, ◌^◌, Bool, true, false, if◌then◌else◌, Option, Some, None, List, []}
 use Rattle.std.specs.Prelude.{◌∷◌, ◌++◌, length, slice_index, All}
-use Rattle.hard_words.specs.Observed.{SameObserved}
-use Rattle.hard_words.specs.Stepping.{go, Always}
+use Rattle.hard_runs.specs.Observed.{SameObserved}
+use Rattle.hard_runs.specs.Stepping.{go, Always}
 use Rattle.mips_isa.specs.declared.instr.Instr.{Instr}
 use Rattle.mips_isa.specs.declared.instr.Instr.TheVariants.{J, Jal, Jr, Beq, Bne, Break, Lui, Ori}
 use Rattle.mips_isa.specs.declared.instr.End.{End}
@@ -12,22 +12,22 @@ use Rattle.mips_isa.specs.Machine.{State, is_jump}
 use Rattle.mips_isa.specs.Runs.{run, observed}
 use Rattle.mips_isa.specs.Image.{boot_state}
 use Rattle.mips_isa.specs.Table.{IsInRange}
-use Rattle.hard_code.specs.declared.code.Fix.{Fix}
-use Rattle.hard_code.specs.declared.code.Fix.TheVariants.{Plain, Block, Function, ReturnHigh, ReturnLow}
-use Rattle.hard_code.specs.declared.code.Item.{Item}
-use Rattle.hard_code.specs.declared.code.HardProgram.{HardProgram}
-use Rattle.hard_code.specs.declared.code.Mark.{Mark}
-use Rattle.hard_code.specs.declared.code.Signed.{Signed}
-use Rattle.hard_code.specs.Heads.{headed}
-use Rattle.hard_code.specs.WellFormed.{WellFormed, IsEntered}
-use Rattle.hard_code.specs.Streams.{nop}
-use Rattle.hard_code.specs.Run.{Data, Spot, Way, Onward, Over, To, items, items_of, named, first_spot, item_run}
-use Rattle.hard_code.specs.Forms.{Each, Formed, HalvesPair}
-use Rattle.hard_code.specs.Counts.{Calm, calm_from}
-use Rattle.mips_isa.specs.Blocks.{IsStart}
-use Rattle.hard_code.specs.Ways.{MayFollow, Holds, CallsFunction}
+use Rattle.hard_items.specs.declared.code.Fix.{Fix}
+use Rattle.hard_items.specs.declared.code.Fix.TheVariants.{Plain, Block, Function, ReturnHigh, ReturnLow}
+use Rattle.hard_items.specs.declared.code.Item.{Item}
+use Rattle.hard_items.specs.declared.code.HardProgram.{HardProgram}
+use Rattle.hard_items.specs.declared.code.Mark.{Mark}
+use Rattle.hard_items.specs.declared.code.Signed.{Signed}
+use Rattle.hard_items.specs.Heads.{headed}
+use Rattle.hard_items.specs.WellFormed.{WellFormed, IsEntered}
+use Rattle.hard_items.specs.Streams.{nop}
+use Rattle.hard_items.specs.Run.{Data, Spot, Way, Onward, Over, To, items, items_of, named, first_spot, item_run}
+use Rattle.hard_items.specs.Forms.{Each, Formed, HalvesPair}
+use Rattle.hard_items.specs.Counts.{Calm, calm_from}
+use Rattle.mips_text.specs.Blocks.{IsStart}
+use Rattle.hard_items.specs.Ways.{MayFollow, Holds, CallsFunction}
 use Rattle.hard_words.specs.Words.{AreWords}
-use Rattle.hard_code.specs.Rules.{LawfulAt, NeverReports}
+use Rattle.hard_items.specs.Rules.{LawfulAt, NeverReports}
 use Rattle.layout_law.specs.Layout.{words, address, Reaches, text, image}
 
 -- ---- what stands in a block

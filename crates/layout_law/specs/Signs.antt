@@ -1,24 +1,24 @@
 -- The run with heads beside the run of the items.
 use Rattle.std.specs.Prelude.{◌≡◌, ◌<◌, ◌⊎◌, ℕ, Bool, true, false, ◌==◌, ◌||◌, if◌then◌else◌, Some, None, List, [], ◌∷◌, length, slice_get, slice_index, bit_xor}
-use Rattle.hard_words.specs.Observed.{SameObserved}
-use Rattle.hard_words.specs.Stepping.{go, Always}
-use Rattle.hard_code.specs.declared.code.Class.TheVariants.{Head}
-use Rattle.hard_code.specs.declared.code.Item.{Item}
-use Rattle.hard_code.specs.declared.code.HardProgram.{HardProgram}
-use Rattle.hard_code.specs.declared.code.Mark.{Mark}
-use Rattle.hard_code.specs.declared.code.Signed.{Signed}
-use Rattle.hard_code.specs.Streams.{touched}
-use Rattle.hard_code.specs.Run.{Data, Spot, items, items_of, first_spot, item_run}
-use Rattle.hard_code.specs.Ways.{MayFollow}
-use Rattle.hard_code.specs.WellFormed.{WellFormed}
-use Rattle.hard_code.specs.Forms.{Each, Formed}
+use Rattle.hard_runs.specs.Observed.{SameObserved}
+use Rattle.hard_runs.specs.Stepping.{go, Always}
+use Rattle.hard_items.specs.declared.code.Class.TheVariants.{Head}
+use Rattle.hard_items.specs.declared.code.Item.{Item}
+use Rattle.hard_items.specs.declared.code.HardProgram.{HardProgram}
+use Rattle.hard_items.specs.declared.code.Mark.{Mark}
+use Rattle.hard_items.specs.declared.code.Signed.{Signed}
+use Rattle.hard_items.specs.Streams.{touched}
+use Rattle.hard_items.specs.Run.{Data, Spot, items, items_of, first_spot, item_run}
+use Rattle.hard_items.specs.Ways.{MayFollow}
+use Rattle.hard_items.specs.WellFormed.{WellFormed}
+use Rattle.hard_items.specs.Forms.{Each, Formed}
 use Rattle.hard_words.specs.Words.{AreWords}
-use Rattle.hard_code.specs.Rules.{LawfulAt, NeverReports}
+use Rattle.hard_items.specs.Rules.{LawfulAt, NeverReports}
 use Rattle.mips_isa.specs.Runs.{observed}
 use Rattle.mips_isa.specs.Image.{boot_state}
 use Rattle.layout_law.specs.Layout.{image}
 use Rattle.layout_law.specs.Level.{Laying}
-use Rattle.hard_code.specs.Heads.{headed, signed_run}
+use Rattle.hard_items.specs.Heads.{headed, signed_run}
 
 -- A register of the signatures.
 abbrev pub is_sign : ℕ → Bool

@@ -1,14 +1,14 @@
 -- The words of a guarded program with heads keep the ten rules of the lint.
 use Rattle.std.specs.Prelude.{◌≡◌, ℕ, List, length}
-use Rattle.hard_words.specs.Stepping.{Always}
-use Rattle.mips_isa.specs.Faults.{Placed, Unreported}
+use Rattle.hard_runs.specs.Stepping.{Always}
+use Rattle.mips_faults.specs.Faults.{Placed, Unreported}
 use Rattle.harden_lint.specs.Rules.{WellTyped}
-use Rattle.hard_code.specs.declared.code.Signed.{Signed}
-use Rattle.hard_code.specs.Heads.{headed}
-use Rattle.hard_code.specs.declared.code.HardProgram.{HardProgram}
-use Rattle.hard_code.specs.Run.{items, first_spot}
+use Rattle.hard_items.specs.declared.code.Signed.{Signed}
+use Rattle.hard_items.specs.Heads.{headed}
+use Rattle.hard_items.specs.declared.code.HardProgram.{HardProgram}
+use Rattle.hard_items.specs.Run.{items, first_spot}
 use Rattle.hard_words.specs.Words.{AreWords}
-use Rattle.hard_code.specs.Rules.{Guarded, LawfulAt, NeverReports}
+use Rattle.hard_items.specs.Rules.{Guarded, LawfulAt, NeverReports}
 use Rattle.layout_law.specs.Layout.{text, image}
 use Rattle.layout_law.specs.Level.{Laying, Layable, Entered}
 

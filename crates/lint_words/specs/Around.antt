@@ -3,7 +3,7 @@
 use Rattle.std.specs.Prelude.{ℕ, ◌-◌, ◌==◌, ◌&&◌, ◌||◌, not, Bool, true, false, if◌then◌else◌, Option, Some, None, List, length, get_or}
 use Rattle.mips_isa.specs.declared.instr.Instr.{Instr}
 use Rattle.mips_isa.specs.Machine.{text_place, among, reads_of, writes_of, is_jump}
-use Rattle.mips_isa.specs.Text.{instr_at}
+use Rattle.mips_text.specs.Text.{instr_at}
 use Rattle.lint_words.specs.Words.{code_of, skipped, in_words}
 
 -- The table says that a word is a start.

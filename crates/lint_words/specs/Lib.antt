@@ -3,3 +3,4 @@ pub mod Words
 pub mod Around
 pub mod Windows
 pub mod Shapes
+pub mod WindowList

@@ -3,7 +3,7 @@
 use Rattle.std.specs.Prelude.{ℕ, ◌+◌, ◌-◌, ◌==◌, ◌&&◌, ◌||◌, nat_le, Bool, false, if◌then◌else◌, Option, Some, None, List}
 use Rattle.mips_isa.specs.declared.instr.Instr.{Instr}
 use Rattle.mips_isa.specs.declared.instr.Instr.TheVariants.{Sll, Beq, Ori, Addu, Xor, Xori}
-use Rattle.mips_isa.specs.Text.{instr_at}
+use Rattle.mips_text.specs.Text.{instr_at}
 use Rattle.lint_words.specs.Words.{code_of}
 use Rattle.lint_words.specs.Around.{starts_at}
 use Rattle.lint_words.specs.Windows.{serving}

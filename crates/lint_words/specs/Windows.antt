@@ -2,7 +2,7 @@
 use Rattle.std.specs.Prelude.{ℕ, ◌+◌, ◌-◌, ◌==◌, ◌&&◌, ◌||◌, nat_le, not, Bool, true, false, if◌then◌else◌, Option, Some, None, List}
 use Rattle.mips_isa.specs.declared.instr.Instr.{Instr}
 use Rattle.mips_isa.specs.declared.instr.Instr.TheVariants.{Jr, Syscall, Beq, Bne, Sw}
-use Rattle.mips_isa.specs.Text.{instr_at}
+use Rattle.mips_text.specs.Text.{instr_at}
 use Rattle.lint_words.specs.Words.{code_of, skipped}
 use Rattle.lint_words.specs.Around.{reads_by, writes_by, reporting}
 

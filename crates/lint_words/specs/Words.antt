@@ -4,7 +4,7 @@ use Rattle.std.specs.Prelude.{ℕ, ◌+◌, ◌%◌, ◌==◌, ◌&&◌, nat_le,
 use Rattle.mips_isa.specs.declared.instr.Instr.{Instr}
 use Rattle.mips_isa.specs.declared.instr.Instr.TheVariants.{Break, J, Jal, Beq, Bne}
 use Rattle.mips_isa.specs.Machine.{text_place}
-use Rattle.mips_isa.specs.Text.{instr_at, branch_goal, jump_goal}
+use Rattle.mips_text.specs.Text.{instr_at, branch_goal, jump_goal}
 
 -- The code of the break at an address.
 abbrev pub code_of : Option Instr → Option ℕ

@@ -7,7 +7,7 @@
 
 mod around;
 mod forms;
-mod table;
+pub mod table;
 mod windows;
 mod words;
 

@@ -1,7 +1,7 @@
 //! The words of a text: what each is, where it leads, and which starts it makes.
 ghost use Rattle.std.specs.Prelude.{◌≡◌, ◌<◌, ◌^◌, IfSome};
 ghost use Rattle.mips_isa.specs.Table.{IsInRange};
-ghost use Rattle.mips_isa.specs.Text.{instr_at, branch_goal, jump_goal};
+ghost use Rattle.mips_text.specs.Text.{instr_at, branch_goal, jump_goal};
 ghost use Rattle.lint_words.specs.Words.{code_of, offset_of, skipped, fork_starts, starts_of, made, in_words};
 
 use crate::table::WordTable;

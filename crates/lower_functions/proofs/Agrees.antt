@@ -3,21 +3,22 @@ use Rattle.std.proofs.Common.{◌≡◌, ℕ, ◌++◌, Bool, if◌then◌else�
 use Rattle.std.specs.Prelude.{slice_index_or}
 use Rattle.std.specs.List.{list_any}
 use Rattle.std.proofs.lemmas.List.{length-map}
-use Rattle.c_tree.specs.declared.tree.Function.{Function}
-use Rattle.c_tree.specs.declared.tree.TopItem.{TopItem}
-use Rattle.c_tree.specs.Graph.{is_recursive}
-use Rattle.c_tree.specs.Meaning as meaning
-use Rattle.c_tree.specs.Meaning.{globals}
-use Rattle.mid_code.specs.declared.code.Mid.{Mid}
-use Rattle.lowering_law.specs.Bindings as law
-use Rattle.lowering_law.specs.Bindings.{Bindings, GlobalShape}
-use Rattle.lowering_law.specs.Programs as programs
-use Rattle.lowering_law.specs.Programs.{variables_of, shapes, number_of, bindings_of, low_function, low_program, with_bodies, in_number_order, object_words}
-use Rattle.lower_emit.specs.declared.table.Shape.{Shape}
-use Rattle.lower_emit.specs.declared.table.Callee.{Callee}
-use Rattle.lower_emit.specs.declared.table.Callee.TheVariants.{NoFunction}
-use Rattle.lower_emit.specs.Names.{shape_of, callee_of}
-use Rattle.lower_tables.specs.Calls.{AreCallees}
+use Rattle.c_syntax.specs.declared.tree.Function.{Function}
+use Rattle.c_syntax.specs.declared.tree.TopItem.{TopItem}
+use Rattle.c_syntax.specs.Graph.{is_recursive}
+use Rattle.c_meaning.specs.Meaning as meaning
+use Rattle.c_meaning.specs.Meaning.{globals}
+use Rattle.mid_blocks.specs.declared.code.Mid.{Mid}
+use Rattle.lower_rules.specs.Bindings as law
+use Rattle.lower_rules.specs.Bindings.{Bindings, GlobalShape}
+use Rattle.lower_rules.specs.Programs as programs
+use Rattle.c_syntax.specs.Graph.{with_bodies}
+use Rattle.lower_rules.specs.Programs.{variables_of, shapes, number_of, bindings_of, low_function, low_program, in_number_order, object_words}
+use Rattle.lower_expressions.specs.declared.table.Shape.{Shape}
+use Rattle.lower_expressions.specs.declared.table.Callee.{Callee}
+use Rattle.lower_expressions.specs.declared.table.Callee.TheVariants.{NoFunction}
+use Rattle.lower_expressions.specs.Names.{shape_of, callee_of}
+use Rattle.lower_names.specs.Calls.{AreCallees}
 use Rattle.lower_functions.specs.Lowered.{bindings_in, is_marked, low_with, low_among}
 
 module _ (names : meaning.Names) (items : List TopItem) (gs : List Shape) (cs : List Callee) (marks : List Bool) (shaped : map shape_of gs ≡ shapes items) (called : AreCallees names items cs) (marked : (name : ℕ) → is_marked marks name ≡ is_recursive items name) where

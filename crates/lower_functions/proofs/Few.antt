@@ -1,24 +1,24 @@
 -- An expression and a statement have few blocks, temporaries and variables, by their nodes.
 use Rattle.std.proofs.Common.{◌≡◌, ℕ, suc, ◌+◌, ◌*◌, ◌≤◌, max, Bool, true, false, List, [], ◌∷◌, map, sum, length, Option, Some, None, if◌then◌else◌, refl, subst, arith}
 use Rattle.std.proofs.lemmas.List.Sums.{sum_by-cons}
-use Rattle.c_tree.specs.declared.tree.BinaryOp.{BinaryOp}
-use Rattle.c_tree.specs.declared.tree.UnaryOp.{UnaryOp}
-use Rattle.c_tree.specs.declared.tree.UnaryOp.TheVariants as unary
-use Rattle.c_tree.specs.declared.tree.Expr.{Expr, roll-Expr, map-Expr, ind-Expr, fold-roll-Expr}
-use Rattle.c_tree.specs.declared.tree.Expr.TheOpen.{Expr-F}
-use Rattle.c_tree.specs.declared.tree.Local.{Local}
-use Rattle.c_tree.specs.declared.tree.Label.{Label}
-use Rattle.c_tree.specs.declared.tree.Label.TheVariants as label
-use Rattle.c_tree.specs.declared.tree.Stmt.{Stmt, roll-Stmt, map-Stmt, ind-Stmt, fold-roll-Stmt}
-use Rattle.c_tree.specs.declared.tree.Clause.{Clause, roll-Clause, map-Clause, fold-roll-Clause}
-use Rattle.c_tree.specs.declared.tree.Stmt.TheOpen.{Stmt-F, Clause-F}
-use Rattle.c_tree.specs.Meaning.{label_word}
-use Rattle.c_tree.specs.Sizes.{greatest, or_zero, expression_nodes, expression_nodes_step, local_nodes, label_nodes, statement_nodes_step, clause_nodes_step, statement_nodes, clause_nodes}
-use Rattle.c_tree.specs.Costs.{Need, need, need_step, argument_temps, assign_temps, old_temps, bump_temps, temps, local_temps, label_temps, statement_temps_step, clause_temps_step, statement_temps, clause_temps, statement_locals_step, clause_locals_step, statement_locals, clause_locals}
-use Rattle.lowering_law.specs.Bindings.{Bindings, Callee, InWord, OutWord, Defined, NoFunction}
-use Rattle.lowering_law.specs.Expressions.{LowExpr, low_step, low, low_unary, args_blocks, callee_blocks}
-use Rattle.lowering_law.specs.Statements.{LowStmt, value_blocks, test_blocks, low_if, list_blocks, low_list, low_local, LowClause, low_clause_step, case_count, cases_count, clauses_blocks, low_statement_step, low_statement, low_clause}
-use Rattle.lowering_law.specs.Labels.{none_first, unlabelled_step, unlabelled_clause_step, unlabelled, unlabelled_in_clause}
+use Rattle.c_syntax.specs.declared.tree.BinaryOp.{BinaryOp}
+use Rattle.c_syntax.specs.declared.tree.UnaryOp.{UnaryOp}
+use Rattle.c_syntax.specs.declared.tree.UnaryOp.TheVariants as unary
+use Rattle.c_syntax.specs.declared.tree.Expr.{Expr, roll-Expr, map-Expr, ind-Expr, fold-roll-Expr}
+use Rattle.c_syntax.specs.declared.tree.Expr.TheOpen.{Expr-F}
+use Rattle.c_syntax.specs.declared.tree.Local.{Local}
+use Rattle.c_syntax.specs.declared.tree.Label.{Label}
+use Rattle.c_syntax.specs.declared.tree.Label.TheVariants as label
+use Rattle.c_syntax.specs.declared.tree.Stmt.{Stmt, roll-Stmt, map-Stmt, ind-Stmt, fold-roll-Stmt}
+use Rattle.c_syntax.specs.declared.tree.Clause.{Clause, roll-Clause, map-Clause, fold-roll-Clause}
+use Rattle.c_syntax.specs.declared.tree.Stmt.TheOpen.{Stmt-F, Clause-F}
+use Rattle.c_meaning.specs.Meaning.{label_word}
+use Rattle.c_syntax.specs.Sizes.{greatest, or_zero, expression_nodes, expression_nodes_step, local_nodes, label_nodes, statement_nodes_step, clause_nodes_step, statement_nodes, clause_nodes}
+use Rattle.c_syntax.specs.Costs.{Need, need, need_step, argument_temps, assign_temps, old_temps, bump_temps, temps, local_temps, label_temps, statement_temps_step, clause_temps_step, statement_temps, clause_temps, statement_locals_step, clause_locals_step, statement_locals, clause_locals}
+use Rattle.lower_rules.specs.Bindings.{Bindings, Callee, InWord, OutWord, Defined, NoFunction}
+use Rattle.lower_rules.specs.Expressions.{LowExpr, low_step, low, low_unary, args_blocks, callee_blocks}
+use Rattle.lower_rules.specs.Statements.{LowStmt, value_blocks, test_blocks, low_if, list_blocks, low_list, low_local, LowClause, low_clause_step, case_count, cases_count, clauses_blocks, low_statement_step, low_statement, low_clause}
+use Rattle.c_syntax.specs.Labels.{none_first, unlabelled_step, unlabelled_clause_step, unlabelled, unlabelled_in_clause}
 
 -- ---- expressions
 

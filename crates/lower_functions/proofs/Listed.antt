@@ -4,20 +4,21 @@ use Rattle.std.proofs.lemmas.List.{map-append, length-append, length-map}
 use Rattle.std.proofs.lemmas.List.Concat.{flat_map-append}
 use Rattle.std.proofs.lemmas.List.Elements.{filter-append}
 use Rattle.std.proofs.lemmas.List.Sums.{sum_by-cons}
-use Rattle.c_tree.specs.declared.tree.GlobalVar.{GlobalVar}
-use Rattle.c_tree.specs.declared.tree.Stmt.{Stmt}
-use Rattle.c_tree.specs.declared.tree.Function.{Function}
-use Rattle.c_tree.specs.declared.tree.TopItem.{TopItem}
-use Rattle.c_tree.specs.declared.tree.TopItem.TheVariants as item
-use Rattle.c_tree.specs.Graph.{functions, functions_of, has_body}
-use Rattle.c_tree.specs.Sizes.{global_nodes, function_nodes, item_nodes}
-use Rattle.c_tree.specs.Meaning.{global, globals, globals_of}
-use Rattle.lowering_law.specs.Labels.{bare_clauses}
-use Rattle.lowering_law.specs.Programs as programs
-use Rattle.lowering_law.specs.Programs.{with_bodies, in_number_order, shapes}
-use Rattle.lower_emit.specs.declared.table.Shape.{Shape}
-use Rattle.lower_emit.specs.Names.{shape_of}
-use Rattle.lower_tables.specs.Calls.{picks, chosen}
+use Rattle.c_syntax.specs.declared.tree.GlobalVar.{GlobalVar}
+use Rattle.c_syntax.specs.declared.tree.Stmt.{Stmt}
+use Rattle.c_syntax.specs.declared.tree.Function.{Function}
+use Rattle.c_syntax.specs.declared.tree.TopItem.{TopItem}
+use Rattle.c_syntax.specs.declared.tree.TopItem.TheVariants as item
+use Rattle.c_syntax.specs.Graph.{functions, functions_of, has_body}
+use Rattle.c_syntax.specs.Sizes.{global_nodes, function_nodes, item_nodes}
+use Rattle.c_meaning.specs.Meaning.{global, globals, globals_of}
+use Rattle.c_syntax.specs.Labels.{bare_clauses}
+use Rattle.lower_rules.specs.Programs as programs
+use Rattle.c_syntax.specs.Graph.{with_bodies}
+use Rattle.lower_rules.specs.Programs.{in_number_order, shapes}
+use Rattle.lower_expressions.specs.declared.table.Shape.{Shape}
+use Rattle.lower_expressions.specs.Names.{shape_of}
+use Rattle.lower_names.specs.Calls.{picks, chosen}
 
 bodies-append : (xs ys : List TopItem) → with_bodies (xs ++ ys) ≡ with_bodies xs ++ with_bodies ys
 bodies-append xs ys =

@@ -1,10 +1,10 @@
 -- What the names of a table stand for.
 use Rattle.std.proofs.Common.{◌≡◌, List, map, refl, ap, ◌∙◌}
-use Rattle.lowering_law.specs.Programs as programs
-use Rattle.lower_emit.specs.declared.table.Table.{Table}
-use Rattle.lower_emit.specs.declared.table.Shape.{Shape}
-use Rattle.lower_emit.specs.declared.table.Callee.{Callee}
-use Rattle.lower_emit.specs.Names.{variable_of, names_of}
+use Rattle.lower_rules.specs.Programs as programs
+use Rattle.lower_expressions.specs.declared.table.Table.{Table}
+use Rattle.lower_expressions.specs.declared.table.Shape.{Shape}
+use Rattle.lower_expressions.specs.declared.table.Callee.{Callee}
+use Rattle.lower_expressions.specs.Names.{variable_of, names_of}
 use Rattle.lower_functions.specs.Lowered.{bindings_in}
 
 names_are : (t : Table) → names_of t ≡ bindings_in t.globals.items t.callees.items (map variable_of t.variables.items)

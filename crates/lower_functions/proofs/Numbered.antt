@@ -1,14 +1,14 @@
 -- The numbers of a function of few nodes are words.
 use Rattle.std.proofs.Common.{◌≡◌, ◌+◌, ◌*◌, ◌≤◌, List, [], length, Option, Some, None, false, arith}
-use Rattle.c_tree.specs.declared.tree.Param.{Param}
-use Rattle.c_tree.specs.declared.tree.Stmt.{Stmt}
-use Rattle.c_tree.specs.declared.tree.Function.{Function}
-use Rattle.c_tree.specs.Graph.{body_of}
-use Rattle.c_tree.specs.Sizes.{body_nodes, function_nodes}
-use Rattle.c_tree.specs.Costs.{function_weight}
-use Rattle.lowering_law.specs.Bindings.{Bindings, NoFunction}
-use Rattle.lowering_law.specs.Labels.{bare_clauses}
-use Rattle.lowering_law.specs.Programs.{free_of}
+use Rattle.c_syntax.specs.declared.tree.Param.{Param}
+use Rattle.c_syntax.specs.declared.tree.Stmt.{Stmt}
+use Rattle.c_syntax.specs.declared.tree.Function.{Function}
+use Rattle.c_syntax.specs.Graph.{body_of}
+use Rattle.c_syntax.specs.Sizes.{body_nodes, function_nodes}
+use Rattle.c_syntax.specs.Costs.{function_weight}
+use Rattle.lower_rules.specs.Bindings.{Bindings, NoFunction}
+use Rattle.c_syntax.specs.Labels.{bare_clauses}
+use Rattle.lower_rules.specs.Programs.{free_of}
 use Rattle.lower_functions.specs.Lowered.{HasNumbers}
 use Rattle.lower_functions.proofs.Few.{few_body}
 

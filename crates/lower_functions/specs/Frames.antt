@@ -1,11 +1,11 @@
 -- What stands before and behind the lines of a body. It serves private contracts.
 use Rattle.std.specs.Prelude.{ℕ, ◌+◌, ◌<◌, ◌^◌, Bool, List, [], ◌∷◌, ◌++◌, Option, Some, None}
-use Rattle.mid_code.specs.declared.code.MidOp.TheVariants.{Add, Ne}
-use Rattle.mid_code.specs.declared.code.MidStep.TheVariants.{Constant, Operate, Load, Store, Deep}
-use Rattle.mid_code.specs.declared.code.MidEnd.TheVariants.{Jump, Return}
-use Rattle.mid_code.specs.Lines.{Line, Step, End}
-use Rattle.lowering_law.specs.Functions as law
-use Rattle.lowering_law.specs.Functions.{fallen_off, returned_from, end_lines}
+use Rattle.mid_blocks.specs.declared.code.MidOp.TheVariants.{Add, Ne}
+use Rattle.mid_blocks.specs.declared.code.MidStep.TheVariants.{Constant, Operate, Load, Store, Deep}
+use Rattle.mid_blocks.specs.declared.code.MidEnd.TheVariants.{Jump, Return}
+use Rattle.mid_blocks.specs.Lines.{Line, Step, End}
+use Rattle.lower_rules.specs.Functions as law
+use Rattle.lower_rules.specs.Functions.{fallen_off, returned_from, end_lines}
 use Rattle.lower_functions.specs.declared.bodies.Counter.{Counter}
 
 -- where a function counts its active calls

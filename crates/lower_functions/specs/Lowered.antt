@@ -1,19 +1,19 @@
 -- What a function is lowered to, by what its names stand for and whether it is recursive.
 use Rattle.std.specs.Prelude.{ℕ, ◌+◌, ◌-◌, ◌*◌, ◌<◌, ◌^◌, Bool, false, if◌then◌else◌, List, [], map, sum, length, Option, Some, None, slice_index_or}
-use Rattle.c_tree.specs.declared.tree.Function.{Function}
-use Rattle.c_tree.specs.Graph.{body_of}
-use Rattle.c_tree.specs.Sizes.{greatest, statement_nodes}
-use Rattle.c_tree.specs.Costs.{statement_temps, function_weight}
-use Rattle.mid_code.specs.declared.code.MidFunction.{MidFunction}
-use Rattle.lowering_law.specs.Bindings.{Bindings}
-use Rattle.lowering_law.specs.Functions.{Counter, cut, body_lines}
-use Rattle.lowering_law.specs.Statements.{low_list, low_statement}
-use Rattle.lowering_law.specs.Programs as programs
-use Rattle.lowering_law.specs.Programs.{variables_of, free_of, some_of, returns_value}
-use Rattle.lower_emit.specs.declared.table.Shape.{Shape}
-use Rattle.lower_emit.specs.declared.table.Callee.{Callee}
-use Rattle.lower_emit.specs.declared.table.Callee.TheVariants.{NoFunction}
-use Rattle.lower_emit.specs.Names.{callee_of, shape_of}
+use Rattle.c_syntax.specs.declared.tree.Function.{Function}
+use Rattle.c_syntax.specs.Graph.{body_of}
+use Rattle.c_syntax.specs.Sizes.{greatest, statement_nodes}
+use Rattle.c_syntax.specs.Costs.{statement_temps, function_weight}
+use Rattle.mid_blocks.specs.declared.code.MidFunction.{MidFunction}
+use Rattle.lower_rules.specs.Bindings.{Bindings}
+use Rattle.lower_rules.specs.Functions.{Counter, cut, body_lines}
+use Rattle.lower_rules.specs.Statements.{low_list, low_statement}
+use Rattle.lower_rules.specs.Programs as programs
+use Rattle.lower_rules.specs.Programs.{variables_of, free_of, some_of, returns_value}
+use Rattle.lower_expressions.specs.declared.table.Shape.{Shape}
+use Rattle.lower_expressions.specs.declared.table.Callee.{Callee}
+use Rattle.lower_expressions.specs.declared.table.Callee.TheVariants.{NoFunction}
+use Rattle.lower_expressions.specs.Names.{callee_of, shape_of}
 
 -- the names in a function, among these globals and callees
 unfoldable pub bindings_in : List Shape → List Callee → List programs.Variable → Bindings

@@ -2,19 +2,19 @@
 //! its active calls.
 
 ghost use Rattle.std.specs.Prelude.{◌≡◌, ◌+◌, ◌*◌, ◌<◌, ◌^◌, ◌++◌, ◌∷◌, [], map, sum, IfOk, OnOk};
-ghost use Rattle.c_tree.specs.Sizes.{statement_nodes};
-ghost use Rattle.mid_code.specs.Lines.{Step, End};
-ghost use Rattle.lowering_law.specs.Functions.{cut, begin_lines, end_lines, fallen_off, returned_from, body_lines};
-ghost use Rattle.lowering_law.specs.Statements.{low_list, low_statement};
-ghost use Rattle.lower_emit.specs.Written.{written};
-ghost use Rattle.lower_emit.specs.Names.{names_of, AreKnown};
+ghost use Rattle.c_syntax.specs.Sizes.{statement_nodes};
+ghost use Rattle.mid_blocks.specs.Lines.{Step, End};
+ghost use Rattle.lower_rules.specs.Functions.{cut, begin_lines, end_lines, fallen_off, returned_from, body_lines};
+ghost use Rattle.lower_rules.specs.Statements.{low_list, low_statement};
+ghost use Rattle.lower_expressions.specs.Written.{written};
+ghost use Rattle.lower_expressions.specs.Names.{names_of, AreKnown};
 ghost use Rattle.lower_functions.specs.Frames.{counted, HasRoom, deep_lines, raise_lines, last_lines};
 
-use c_tree::Stmt;
-use hard_words::OutOfMemory;
-use lower_emit::{Builder, Table};
+use c_syntax::Stmt;
+use hard_words::{OutOfMemory, Sequence};
+use lower_expressions::{Builder, Table};
 use lower_statements::{Context, list_blocks, statements};
-use mid_code::{MidBlock, MidEnd, MidOp, MidStep, Sequence};
+use mid_blocks::{MidBlock, MidEnd, MidOp, MidStep};
 use std::alloc::Global;
 
 /// Where a recursive function counts its active calls: the global that holds the number, and the first of two variables

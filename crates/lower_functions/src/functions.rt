@@ -1,22 +1,23 @@
 //! A function, lowered.
 
 ghost use Rattle.std.specs.Prelude.{◌≡◌, ◌≤◌, ◌<◌, ◌^◌, ◌+◌, map, length, IfOk, OnOk};
-ghost use Rattle.c_tree.specs.Graph.{body_of};
-ghost use Rattle.c_tree.specs.Sizes.{function_nodes};
-ghost use Rattle.c_tree.specs.Costs.{function_weight};
-ghost use Rattle.lowering_law.specs.Labels.{bare_clauses};
-ghost use Rattle.lowering_law.specs.Programs.{variables_of};
-ghost use Rattle.lower_emit.specs.Names.{variable_of, names_of, AreKnown};
-ghost use Rattle.lower_tables.specs.Stands.{KnownOutside};
+ghost use Rattle.c_syntax.specs.Graph.{body_of};
+ghost use Rattle.c_syntax.specs.Sizes.{function_nodes};
+ghost use Rattle.c_syntax.specs.Costs.{function_weight};
+ghost use Rattle.c_syntax.specs.Labels.{bare_clauses};
+ghost use Rattle.lower_rules.specs.Programs.{variables_of};
+ghost use Rattle.lower_expressions.specs.Names.{variable_of, names_of, AreKnown};
+ghost use Rattle.lower_names.specs.Stands.{KnownOutside};
 ghost use Rattle.lower_functions.specs.Frames.{counted, HasRoom};
 ghost use Rattle.lower_functions.specs.Lowered.{bindings_in, extra_pairs, counter_with, low_with, HasNumbers};
 
 use crate::bodies::{Counter, body_blocks};
-use c_tree::{Function, Stmt, weight};
-use hard_words::OutOfMemory;
-use lower_emit::{Known, Table};
-use lower_tables::{behind_temporaries, enter, leave, returns_value, variables};
-use mid_code::{MidBlock, MidFunction, Sequence};
+use c_costs::weight;
+use c_syntax::{Function, Stmt};
+use hard_words::{OutOfMemory, Sequence};
+use lower_expressions::{Known, Table};
+use lower_names::{behind_temporaries, enter, leave, returns_value, variables};
+use mid_blocks::{MidBlock, MidFunction};
 use sqlite_items::Items;
 use std::alloc::Global;
 

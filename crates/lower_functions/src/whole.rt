@@ -2,21 +2,22 @@
 
 ghost use Rattle.std.specs.Prelude.{◌≡◌, ℕ, ◌+◌, ◌≤◌, ◌<◌, ◌^◌, ◌++◌, ◌∷◌, [], ◌||◌, false, if◌then◌else◌, map, sum, length, slice_index_or, IfOk, OnOk};
 ghost use Rattle.std.specs.List.{list_any};
-ghost use Rattle.c_tree.specs.Graph.{is_recursive};
-ghost use Rattle.c_tree.specs.Sizes.{item_nodes};
-ghost use Rattle.c_tree.specs.Meaning.{globals};
-ghost use Rattle.lowering_law.specs.Labels.{bare_clauses};
-ghost use Rattle.lowering_law.specs.Programs.{object_words, with_bodies, in_number_order, any_recursive, low_program};
-ghost use Rattle.lower_tables.specs.Stands.{KnownOutside};
-ghost use Rattle.lower_tables.specs.Calls.{chosen, meant, AreCallees};
+ghost use Rattle.c_syntax.specs.Graph.{is_recursive};
+ghost use Rattle.c_syntax.specs.Sizes.{item_nodes};
+ghost use Rattle.c_meaning.specs.Meaning.{globals};
+ghost use Rattle.c_syntax.specs.Labels.{bare_clauses};
+ghost use Rattle.c_syntax.specs.Graph.{with_bodies};
+ghost use Rattle.lower_rules.specs.Programs.{object_words, in_number_order, any_recursive, low_program};
+ghost use Rattle.lower_names.specs.Stands.{KnownOutside};
+ghost use Rattle.lower_names.specs.Calls.{chosen, meant, AreCallees};
 ghost use Rattle.lower_functions.specs.Lowered.{low_among, is_marked};
 
 use crate::functions::function;
-use c_tree::TopItem;
-use hard_words::{OutOfMemory, Words};
-use lower_emit::{Known, Shape, Table};
-use lower_tables::{Names, callees, chosen, global_words, outside, shapes};
-use mid_code::{Mid, MidFunction, Sequence};
+use c_syntax::TopItem;
+use hard_words::{OutOfMemory, Sequence, Words};
+use lower_expressions::{Known, Shape, Table};
+use lower_names::{Names, callees, chosen, global_words, outside, shapes};
+use mid_blocks::{Mid, MidFunction};
 use std::alloc::Global;
 
 /// Whether the function of a name is marked.

@@ -1,13 +1,13 @@
 -- Lists of declarators, of statements and of clauses, an element at a time.
 use Rattle.std.proofs.Common.{◌≡◌, ℕ, zero, suc, ◌+◌, ◌<◌, ◌≤◌, List, [], ◌∷◌, ◌++◌, map, sum, length, get_or, drop, drop-cons, sym, ap, ◌∙◌, append_assoc, arith}
 use Rattle.std.proofs.lemmas.Grind.{common_steps}
-use Rattle.c_tree.specs.declared.tree.Stmt.{Stmt}
-use Rattle.c_tree.specs.declared.tree.Clause.{Clause, fold-roll-Clause}
-use Rattle.c_tree.specs.Sizes.{statement_nodes, statement_nodes_step, label_nodes, clause_nodes, clause_nodes_step}
-use Rattle.mid_code.specs.declared.code.MidEnd.TheVariants.{Jump}
-use Rattle.mid_code.specs.Lines.{Line, End}
-use Rattle.lowering_law.specs.Bindings.{Bindings}
-use Rattle.lowering_law.specs.Statements.{Context, LowStmt, LowClause, low_statement, low_statement_step, low_clause, low_clause_step, list_blocks, list_lines, clauses_blocks, clauses_lines}
+use Rattle.c_syntax.specs.declared.tree.Stmt.{Stmt}
+use Rattle.c_syntax.specs.declared.tree.Clause.{Clause, fold-roll-Clause}
+use Rattle.c_syntax.specs.Sizes.{statement_nodes, statement_nodes_step, label_nodes, clause_nodes, clause_nodes_step}
+use Rattle.mid_blocks.specs.declared.code.MidEnd.TheVariants.{Jump}
+use Rattle.mid_blocks.specs.Lines.{Line, End}
+use Rattle.lower_rules.specs.Bindings.{Bindings}
+use Rattle.lower_rules.specs.Statements.{Context, LowStmt, LowClause, low_statement, low_statement_step, low_clause, low_clause_step, list_blocks, list_lines, clauses_blocks, clauses_lines}
 
 next_place : (i : ℕ) → suc i ≡ i + 1
 next_place i = omega arith

@@ -1,5 +1,5 @@
 -- What the context of a statement stands for.
-use Rattle.lowering_law.specs.Statements as law
+use Rattle.lower_rules.specs.Statements as law
 use Rattle.lower_statements.specs.declared.context.Context.{Context}
 
 abbrev pub context_of : Context → law.Context

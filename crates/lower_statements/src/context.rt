@@ -1,7 +1,7 @@
 //! Where the jumps of a statement go.
 
 ghost use Rattle.std.specs.Prelude.{◌≡◌};
-ghost use Rattle.lowering_law.specs.Statements.{in_loop};
+ghost use Rattle.lower_rules.specs.Statements.{in_loop};
 ghost use Rattle.lower_statements.specs.Contexts.{context_of};
 
 /// Where a statement's jumps go, and the first free variable.

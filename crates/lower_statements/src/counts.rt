@@ -1,13 +1,13 @@
 //! How many blocks the lines of statements end, before they are put.
 
 ghost use Rattle.std.specs.Prelude.{◌≡◌, ◌+◌, ◌<◌, ◌^◌, map};
-ghost use Rattle.lowering_law.specs.Statements as law;
-ghost use Rattle.lowering_law.specs.Statements.{low_if, low_local, low_list, low_statement, low_clause};
-ghost use Rattle.lower_emit.specs.Names.{names_of};
+ghost use Rattle.lower_rules.specs.Statements as law;
+ghost use Rattle.lower_rules.specs.Statements.{low_if, low_local, low_list, low_statement, low_clause};
+ghost use Rattle.lower_expressions.specs.Names.{names_of};
 
 use crate::labels::cases_count;
-use c_tree::{Clause, Expr, Local, Stmt};
-use lower_emit::{Table, test_blocks, value_blocks};
+use c_syntax::{Clause, Expr, Local, Stmt};
+use lower_expressions::{Table, test_blocks, value_blocks};
 
 /// The blocks that a value that may be left out ends.
 pub(crate) fn blocks_of_value(table: &Table, e: &Option<Expr>) -> u32

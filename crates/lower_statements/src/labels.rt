@@ -2,20 +2,20 @@
 
 ghost use Rattle.std.specs.Prelude.{◌≡◌, ◌+◌, ◌<◌, ◌^◌, ◌++◌, ◌∷◌, [], true, None, map, OnOk};
 ghost use Rattle.std.specs.List.{list_any};
-ghost use Rattle.c_tree.specs.Meaning.{label_word, is_label};
-ghost use Rattle.mid_code.specs.Lines.{Step, End};
-ghost use Rattle.lowering_law.specs.Statements as law;
-ghost use Rattle.lowering_law.specs.Statements.{low_clause};
-ghost use Rattle.lower_emit.specs.Written.{written};
-ghost use Rattle.lower_emit.specs.Names.{names_of};
+ghost use Rattle.c_meaning.specs.Meaning.{label_word, is_label};
+ghost use Rattle.mid_blocks.specs.Lines.{Step, End};
+ghost use Rattle.lower_rules.specs.Statements as law;
+ghost use Rattle.lower_rules.specs.Statements.{low_clause};
+ghost use Rattle.lower_expressions.specs.Written.{written};
+ghost use Rattle.lower_expressions.specs.Names.{names_of};
 
 use crate::counts::list_blocks;
 use crate::steps::put_constant;
-use c_tree::{Clause, Label};
-use eval_state::constant_word;
+use c_constants::constant_word;
+use c_syntax::{Clause, Label};
 use hard_words::OutOfMemory;
-use lower_emit::{Builder, Table};
-use mid_code::{MidEnd, MidOp, MidStep};
+use lower_expressions::{Builder, Table};
+use mid_blocks::{MidEnd, MidOp, MidStep};
 use std::alloc::Global;
 
 /// How many blocks a label ends: 1 for a `case`.

@@ -1,21 +1,21 @@
 //! The lines of statements.
 
 ghost use Rattle.std.specs.Prelude.{◌≡◌, ◌+◌, ◌*◌, ◌<◌, ◌^◌, ◌++◌, None, Some, map, sum, IfOk, OnOk};
-ghost use Rattle.c_tree.specs.Sizes.{or_zero, expression_nodes, statement_nodes, clause_nodes};
-ghost use Rattle.lowering_law.specs.Expressions.{low};
-ghost use Rattle.lowering_law.specs.Statements as law;
-ghost use Rattle.lowering_law.specs.Statements.{low_if, low_list, low_selection, low_while, low_do, low_for, low_switch, low_statement, low_clause};
-ghost use Rattle.lower_emit.specs.Written.{written};
-ghost use Rattle.lower_emit.specs.Names.{names_of, AreKnown};
+ghost use Rattle.c_syntax.specs.Sizes.{or_zero, expression_nodes, statement_nodes, clause_nodes};
+ghost use Rattle.lower_rules.specs.Expressions.{low};
+ghost use Rattle.lower_rules.specs.Statements as law;
+ghost use Rattle.lower_rules.specs.Statements.{low_if, low_list, low_selection, low_while, low_do, low_for, low_switch, low_statement, low_clause};
+ghost use Rattle.lower_expressions.specs.Written.{written};
+ghost use Rattle.lower_expressions.specs.Names.{names_of, AreKnown};
 ghost use Rattle.lower_statements.specs.Contexts.{context_of};
 
 use crate::context::{Context, in_loop};
 use crate::counts::{blocks_of_test, blocks_of_value, clauses_blocks, statement_blocks};
 use crate::labels::{cases_count, default_block, put_cases};
 use crate::steps::{put_jump, put_locals, put_test, put_value};
-use c_tree::{Clause, Expr, Stmt};
+use c_syntax::{Clause, Expr, Stmt};
 use hard_words::OutOfMemory;
-use lower_emit::{Builder, Table, condition, test_blocks, value};
+use lower_expressions::{Builder, Table, condition, test_blocks, value};
 use std::alloc::Global;
 
 /// The lines of statements one after another, from a block on; gives the block that is open behind them.

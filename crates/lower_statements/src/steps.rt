@@ -1,19 +1,19 @@
 //! Lines that need no walk of a statement: jumps, values that may be left out, declarators.
 
 ghost use Rattle.std.specs.Prelude.{◌≡◌, ◌+◌, ◌*◌, ◌<◌, ◌^◌, ◌++◌, ◌∷◌, [], map, sum, IfOk, OnOk};
-ghost use Rattle.c_tree.specs.Sizes.{or_zero, expression_nodes, local_nodes};
-ghost use Rattle.mid_code.specs.Lines.{Step, End};
-ghost use Rattle.lowering_law.specs.Statements as law;
-ghost use Rattle.lowering_law.specs.Statements.{low_if, low_local, low_list};
-ghost use Rattle.lower_emit.specs.Written.{written};
-ghost use Rattle.lower_emit.specs.Names.{names_of, AreKnown};
+ghost use Rattle.c_syntax.specs.Sizes.{or_zero, expression_nodes, local_nodes};
+ghost use Rattle.mid_blocks.specs.Lines.{Step, End};
+ghost use Rattle.lower_rules.specs.Statements as law;
+ghost use Rattle.lower_rules.specs.Statements.{low_if, low_local, low_list};
+ghost use Rattle.lower_expressions.specs.Written.{written};
+ghost use Rattle.lower_expressions.specs.Names.{names_of, AreKnown};
 ghost use Rattle.lower_statements.specs.Contexts.{context_of};
 
 use crate::context::Context;
-use c_tree::{Expr, Local};
+use c_syntax::{Expr, Local};
 use hard_words::OutOfMemory;
-use lower_emit::{Builder, Symbol, Table, condition, symbol_named, value};
-use mid_code::{MidEnd, MidStep};
+use lower_expressions::{Builder, Symbol, Table, condition, symbol_named, value};
+use mid_blocks::{MidEnd, MidStep};
 use std::alloc::Global;
 
 /// Adds a jump.

@@ -4,14 +4,14 @@ use Rattle.std.specs.Prelude.{nat_le, ◌==◌, ◌&&◌, slice_get}
 use Rattle.std.specs.List.{list_all, All, Any, sum}
 use Rattle.std.proofs.lemmas.Bool.{and_parts, and_from, leb-true, le-leb, or_cases, or_right}
 use Rattle.std.proofs.lemmas.Option.{get_or_from_slice_get, slice_get-get_or}
-use Rattle.mid_code.specs.declared.code.MidEnd.{MidEnd}
-use Rattle.mid_code.specs.declared.code.MidEnd.TheVariants.{Jump, Branch, Call, Return}
-use Rattle.mid_code.specs.declared.code.MidFunction.{MidFunction}
-use Rattle.mid_code.specs.declared.code.Mid.{Mid}
-use Rattle.mid_code.specs.Lines.{lines}
-use Rattle.mid_code.specs.Valid.{ValidFunction, Valid, IsCalled, IsUsed, step_global}
-use Rattle.mid_code.specs.Tested.{is_below, is_it, callee, calls, is_called, may_stay, HoldsBelow, is_main, takes, call_fits, steps_use, blocks_use, globals_exist, blocks_call, calls_fit, names_fit}
-use Rattle.mid_code.proofs.Deciding.{each_true, any_decides, below_some, below_from}
+use Rattle.mid_blocks.specs.declared.code.MidEnd.{MidEnd}
+use Rattle.mid_blocks.specs.declared.code.MidEnd.TheVariants.{Jump, Branch, Call, Return}
+use Rattle.mid_blocks.specs.declared.code.MidFunction.{MidFunction}
+use Rattle.mid_blocks.specs.declared.code.Mid.{Mid}
+use Rattle.mid_blocks.specs.Lines.{lines}
+use Rattle.mid_blocks.specs.Valid.{ValidFunction, Valid, IsCalled, IsUsed, step_global}
+use Rattle.mid_blocks.specs.Tested.{is_below, is_it, callee, calls, is_called, may_stay, HoldsBelow, is_main, takes, call_fits, steps_use, blocks_use, globals_exist, blocks_call, calls_fit, names_fit}
+use Rattle.mid_blocks.proofs.Deciding.{each_true, any_decides, below_some, below_from}
 
 -- an item of a list
 pub record Item {X : Type 0} (xs : List X) (x : X) : Type 0 where

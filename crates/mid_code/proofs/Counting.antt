@@ -7,10 +7,10 @@ use Rattle.std.proofs.lemmas.Bool.{cases_lt, lt-leb}
 use Rattle.std.proofs.lemmas.List.Elements.{at_read}
 use Rattle.std.proofs.lemmas.List.Sums.{sum-map, sum_by-take-le, sum_by_more}
 use Rattle.std.proofs.lemmas.Bool.Decides.{nat_tests}
-use Rattle.mid_code.specs.declared.code.MidBlock.{MidBlock}
-use Rattle.mid_code.specs.Lines.{block_lines}
-use Rattle.mid_code.specs.Tested.{few}
-use Rattle.mid_code.proofs.Positions.{block_length}
+use Rattle.mid_blocks.specs.declared.code.MidBlock.{MidBlock}
+use Rattle.mid_blocks.specs.Lines.{block_lines}
+use Rattle.mid_blocks.specs.Tested.{few}
+use Rattle.mid_blocks.proofs.Positions.{block_length}
 
 few_none : (n : ℕ) → 62914560 < n → few n ≡ None
 few_none n h = grind (arith, nat_tests)

@@ -1,11 +1,11 @@
 -- A check by hand: a program that puts out a word and the sum of two.
 use Rattle.std.specs.Prelude.{◌≡◌, [], ◌∷◌, Some, refl}
-use Rattle.mid_code.specs.declared.code.MidOp.TheVariants.{Add}
-use Rattle.mid_code.specs.declared.code.MidStep.TheVariants.{Constant, Input, Output, Operate}
-use Rattle.mid_code.specs.declared.code.MidEnd.TheVariants.{Call, Return, Jump}
-use Rattle.mid_code.specs.declared.code.Mid.{Mid}
-use Rattle.mid_code.specs.declared.code.RunEnd.TheVariants.{Exited, Starved}
-use Rattle.mid_code.specs.Run.{block_run}
+use Rattle.mid_blocks.specs.declared.code.MidOp.TheVariants.{Add}
+use Rattle.mid_blocks.specs.declared.code.MidStep.TheVariants.{Constant, Input, Output, Operate}
+use Rattle.mid_blocks.specs.declared.code.MidEnd.TheVariants.{Call, Return, Jump}
+use Rattle.mid_blocks.specs.declared.code.Mid.{Mid}
+use Rattle.mid_blocks.specs.declared.code.RunEnd.TheVariants.{Exited, Starved}
+use Rattle.mid_blocks.specs.Run.{block_run}
 
 -- main() { out_word(5); return add(in_word(), 7); }
 example : Mid

@@ -1,9 +1,5 @@
 pub mod Example
 pub mod Tests
 pub mod Windows
-pub mod Positions
-pub mod Deciding
 pub mod Counting
 pub mod Calling
-pub mod LiveLines
-pub mod ValidLines

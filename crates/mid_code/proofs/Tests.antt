@@ -3,10 +3,10 @@ use Rattle.std.proofs.Common.{◌≡◌, ℕ, Bool, true, false, List, [], ◌�
 use Rattle.std.specs.Prelude.{nat_lt, ◌&&◌}
 use Rattle.std.specs.List.{list_all}
 use Rattle.std.proofs.lemmas.List.Folds.{list_all-append, list_all-map}
-use Rattle.mid_code.specs.declared.code.MidStep.{MidStep}
-use Rattle.mid_code.specs.declared.code.MidEnd.{MidEnd}
-use Rattle.mid_code.specs.Lines.{Step, End, one_or_none}
-use Rattle.mid_code.specs.Tested.{is_below, line_fits}
+use Rattle.mid_blocks.specs.declared.code.MidStep.{MidStep}
+use Rattle.mid_blocks.specs.declared.code.MidEnd.{MidEnd}
+use Rattle.mid_blocks.specs.Lines.{Step, End, one_or_none}
+use Rattle.mid_blocks.specs.Tested.{is_below, line_fits}
 
 pub and_true : (b : Bool) → (b && true) ≡ b
 and_true true = refl

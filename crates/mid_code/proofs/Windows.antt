@@ -1,7 +1,7 @@
 -- What holds of one window of numbers after another.
 use Rattle.std.proofs.Common.{◌≡◌, ℕ, ◌+◌, ◌-◌, ◌<◌, Bool, true, subst, arith, inl, inr}
 use Rattle.std.proofs.lemmas.Bool.{cases_lt}
-use Rattle.mid_code.specs.Tested.{HoldsWithin}
+use Rattle.mid_blocks.specs.Tested.{HoldsWithin}
 
 pub window_more : (test : ℕ → Bool) (low count end : ℕ) → ((x : ℕ) → x < low → x < end → test x ≡ true) → HoldsWithin test low count end → (x : ℕ) → x < low + count → x < end → test x ≡ true
 window_more test low count end before within x l h = elim (cases_lt x low) [

@@ -1,10 +1,10 @@
 //! How the blocks of a function follow each other, and which functions of a program are called.
 
 ghost use Rattle.std.specs.Prelude.{◌≡◌, ℕ, ◌+◌, ◌<◌, ◌≤◌, ◌-◌, ◌↔◌, ◌^◌, IsTrue, length, slice_get, slice_index_or};
-ghost use Rattle.mid_code.specs.Tested.{names, is_called, AreMarks, HoldsWithin, HoldsBelow, follows, enters, block_before, is_entered, may_stay};
+ghost use Rattle.mid_blocks.specs.Tested.{names, is_called, AreMarks, HoldsWithin, HoldsBelow, follows, enters, block_before, is_entered, may_stay};
 
-use crate::code::{MidBlock, MidEnd, MidFunction};
 use crate::marks::{lower, raise_called, raise_named};
+use mid_blocks::{MidBlock, MidEnd, MidFunction};
 
 /// Whether a block may follow one that ends so.
 fn follows(end: &MidEnd, named: bool) -> bool

@@ -2,10 +2,10 @@
 //! the whole program for each window of numbers.
 
 ghost use Rattle.std.specs.Prelude.{◌≡◌, ℕ, ◌+◌, ◌<◌, ◌≤◌, false, length, slice_index_or};
-ghost use Rattle.mid_code.specs.Tested.{is_it, names, calls, is_called, AreRaised};
+ghost use Rattle.mid_blocks.specs.Tested.{is_it, names, calls, is_called, AreRaised};
 
-use crate::code::{MidBlock, MidFunction};
 use crate::naming::{callee, target};
+use mid_blocks::{MidBlock, MidFunction};
 
 /// How many numbers a window has: a program that can be compiled has at most so many blocks.
 pub(crate) const WINDOW: usize = 65_536;

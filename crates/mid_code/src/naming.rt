@@ -2,11 +2,11 @@
 
 ghost use Rattle.std.specs.Prelude.{◌≡◌, ℕ, nat_lt};
 ghost use Rattle.std.specs.List.{list_all};
-ghost use Rattle.mid_code.specs.Lines.{Step, End, block_lines};
-ghost use Rattle.mid_code.specs.Tested.{is_below, line_fits, callee, call_fits, steps_use};
-ghost use Rattle.mid_code.specs.Valid.{target, step_global};
+ghost use Rattle.mid_blocks.specs.Lines.{Step, End, block_lines};
+ghost use Rattle.mid_blocks.specs.Tested.{is_below, line_fits, callee, call_fits, steps_use};
+ghost use Rattle.mid_blocks.specs.Valid.{target, step_global};
 
-use crate::code::{MidBlock, MidEnd, MidFunction, MidStep};
+use mid_blocks::{MidBlock, MidEnd, MidFunction, MidStep};
 
 /// Whether a number, where there is one, is below a bound.
 pub(crate) fn is_below(number: Option<u32>, bound: usize) -> bool

@@ -2,16 +2,16 @@
 
 ghost use Rattle.std.specs.Prelude.{◌≡◌, ℕ, ◌+◌, ◌≤◌, ◌↔◌, IsTrue, nat_le, map, sum, length, slice_get};
 ghost use Rattle.std.specs.List.{All, list_all};
-ghost use Rattle.mid_code.specs.Lines.{lines};
-ghost use Rattle.mid_code.specs.Valid.{ValidFunction, Valid};
-ghost use Rattle.mid_code.specs.Tested.{is_main, blocks_use, blocks_call, globals_exist, calls_fit, names_fit};
+ghost use Rattle.mid_blocks.specs.Lines.{lines};
+ghost use Rattle.mid_blocks.specs.Valid.{ValidFunction, Valid};
+ghost use Rattle.mid_blocks.specs.Tested.{is_main, blocks_use, blocks_call, globals_exist, calls_fit, names_fit};
 
-use crate::code::{Mid, MidBlock, MidFunction};
 use crate::entries::each_called;
 use crate::marks::WINDOW;
 use crate::naming::{call_fits, steps_use};
 use crate::validity::{count_lines, valid_function};
 use hard_words::Words;
+use mid_blocks::{Mid, MidBlock, MidFunction};
 
 /// The most words that the globals and the chain of calls take together.
 const MOST_WORDS: usize = 32_768;

@@ -2,14 +2,14 @@
 
 ghost use Rattle.std.specs.Prelude.{◌≡◌, ℕ, ◌+◌, ◌-◌, ◌<◌, ◌≤◌, ◌↔◌, IsTrue, nat_le, is_some, length, slice_get, count_by};
 ghost use Rattle.std.specs.List.{flat_map};
-ghost use Rattle.mid_code.specs.Lines.{block_lines};
-ghost use Rattle.mid_code.specs.Valid.{ValidFunction, is_return};
-ghost use Rattle.mid_code.specs.Tested.{few, numbers_fit, variables_exist, targets_exist, closes, shape_fits};
+ghost use Rattle.mid_blocks.specs.Lines.{block_lines};
+ghost use Rattle.mid_blocks.specs.Valid.{ValidFunction, is_return};
+ghost use Rattle.mid_blocks.specs.Tested.{few, numbers_fit, variables_exist, targets_exist, closes, shape_fits};
 
-use crate::code::{MidBlock, MidEnd, MidFunction};
 use crate::entries::entries_fit;
 use crate::marks::WINDOW;
 use crate::naming::{block_fits, is_below, target};
+use mid_blocks::{MidBlock, MidEnd, MidFunction};
 
 /// The most lines, steps and ends together, of a function and of a program.
 const MOST_LINES: usize = 62_914_560;

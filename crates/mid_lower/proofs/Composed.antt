@@ -2,34 +2,34 @@
 use Rattle.std.proofs.Common.{◌≡◌, ◌≤◌, ◌<◌, ℕ, ◌+◌, ◌*◌, arith, ap, sym, ◌∙◌, subst, Bool, true, false, List, [], ◌∷◌, ◌++◌, map, sum, length, take, le_trans, le_refl}
 use Rattle.std.specs.Prelude.{if◌then◌else◌}
 use Rattle.std.specs.List.{All}
-use Rattle.c_tree.specs.Sizes.{program_nodes}
+use Rattle.c_syntax.specs.Sizes.{program_nodes}
 use Rattle.std.proofs.lemmas.List.{map-append, length-map}
 use Rattle.std.proofs.lemmas.List.Elements.{All-map}
 use Rattle.std.proofs.Math.Seq.{take-append_seam}
 use Rattle.hard_words.specs.Words.{AreWords}
-use Rattle.c_tree.specs.Meaning.{globals}
+use Rattle.c_meaning.specs.Meaning.{globals}
 use Rattle.check_rules.specs.Limits.{Resolved, resolved_names}
-use Rattle.mid_code.specs.declared.code.Mid.{Mid}
-use Rattle.mid_code.specs.Valid.{Valid, IsUsed}
-use Rattle.hard_words.specs.Observed.{Observation, SameObserved}
-use Rattle.mid_code.specs.declared.code.RunEnd.{RunEnd}
-use Rattle.mid_code.specs.Run.{block_run}
-use Rattle.mid_code.specs.Bounds.{Shallow, Proper}
-use Rattle.lowering_law.specs.Seen.{c_observed}
-use Rattle.mid_code.specs.Size.{words, block_count, branch_count}
-use Rattle.lowering_law.specs.Programs.{object_words, any_recursive, low_program}
-use Rattle.lowering_law.specs.Pruned.{pruned, Closed, OnlyReached, ReachedIn}
-use Rattle.lowering_law.specs.Pruned.ReachedIn.{begin, jumped, fallen, called}
-use Rattle.lowering_law.specs.Laws.{RunsAsTree, StaysProper, FewWords}
-use Rattle.lowering_valid.specs.Within.{Within}
-use Rattle.lowering_valid.specs.Laws.{IsValid}
-use Rattle.lowering_words.specs.Laws.{StaysWords, NumbersAreWords}
-use Rattle.lowering_blocks.specs.Laws.{FewBlocks}
-use Rattle.lowering_chains.specs.Laws.{ShallowInRoom}
-use Rattle.lowering_trim.specs.Trimmed.{trimmed, TrimmedStays}
-use Rattle.double_law.proofs.Relation.{sum_cons}
-use Rattle.compile_law.specs.Lowered.{IsLowered}
-use Rattle.mid_lower.specs.Trims.{Trims}
+use Rattle.mid_blocks.specs.declared.code.Mid.{Mid}
+use Rattle.mid_blocks.specs.Valid.{Valid, IsUsed}
+use Rattle.hard_runs.specs.Observed.{Observation, SameObserved}
+use Rattle.mid_blocks.specs.declared.code.RunEnd.{RunEnd}
+use Rattle.mid_blocks.specs.Run.{block_run}
+use Rattle.mid_blocks.specs.Bounds.{Shallow, Proper}
+use Rattle.lower_rules.specs.Seen.{c_observed}
+use Rattle.mid_blocks.specs.Size.{words, block_count, branch_count}
+use Rattle.lower_rules.specs.Programs.{object_words, any_recursive, low_program}
+use Rattle.mid_blocks.specs.Pruned.{pruned, Closed, OnlyReached, ReachedIn}
+use Rattle.mid_blocks.specs.Pruned.ReachedIn.{begin, jumped, fallen, called}
+use Rattle.lower_law.specs.Laws.{RunsAsTree, StaysProper, FewWords}
+use Rattle.lower_valid_law.specs.Within.{Within}
+use Rattle.lower_valid_law.specs.Laws.{IsValid}
+use Rattle.lower_size_law.specs.LoweringWordsLaws.{StaysWords, NumbersAreWords}
+use Rattle.lower_size_law.specs.LoweringBlocksLaws.{FewBlocks}
+use Rattle.lower_calls_law.specs.LoweringChainsLaws.{ShallowInRoom}
+use Rattle.mid_prune.specs.Trimmed.{trimmed, TrimmedStays}
+use Rattle.hard_words.proofs.Sums.{sum_cons}
+use Rattle.lower_rules.specs.Lowered.{IsLowered}
+use Rattle.mid_prune.specs.Trims.{Trims}
 use Rattle.mid_lower.specs.Facts.{global_words, room_of, Facts}
 
 -- the laws of lowering

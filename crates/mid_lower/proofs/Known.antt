@@ -1,25 +1,25 @@
 -- What is known of a checked program where it is lowered.
 use Rattle.std.proofs.Common.{◌≡◌, ◌≤◌, ℕ, ◌+◌, arith, ap, refl, ◌∙◌, subst, Bool, true, List, [], ◌∷◌, map, sum, length}
 use Rattle.std.specs.Prelude.{IsTrue}
-use Rattle.c_tree.specs.declared.tree.Function.{Function}
-use Rattle.c_tree.specs.Meaning.{Names, globals}
-use Rattle.tree_rules.specs.Literals.{items_literals}
+use Rattle.c_syntax.specs.declared.tree.Function.{Function}
+use Rattle.c_meaning.specs.Meaning.{Names, globals}
+use Rattle.c_syntax.specs.Literals.{items_literals}
 use Rattle.check_rules.specs.Limits.{Resolved, resolved_names, global_pairs}
 use Rattle.check_rules.specs.Resolution.{IsChecked}
-use Rattle.mid_code.specs.Valid.{IsUsed}
-use Rattle.lowering_law.specs.Labels.{bare_clauses}
-use Rattle.lowering_law.specs.Programs.{with_bodies}
-use Rattle.lowering_law.specs.Pruned.{pruned, OnlyReached}
-use Rattle.lowering_law.specs.Fitting.{Fitting}
-use Rattle.lowering_words.specs.Labels.{CasesAreWords}
-use Rattle.lowering_chains.specs.Laws.{OneEach}
-use Rattle.lowering_chains.specs.Room.{within}
-use Rattle.mid_code.specs.declared.code.Mid.{Mid}
-use Rattle.c_tree.specs.declared.tree.TopItem.{TopItem}
-use Rattle.lowering_law.specs.Programs.{low_program}
-use Rattle.checked_fits.specs.Fits.{CheckedFits}
-use Rattle.checked_room.specs.Laws.{HasMain, HasFewBlocks, HasLightFrames, HasOneEach, HasRoom, Room, counter_pairs}
-use Rattle.checked_room.specs.Counter.{NoneWhereFlat, CounterUnused, LoweredRoom, HasLoweredRoom}
+use Rattle.mid_blocks.specs.Valid.{IsUsed}
+use Rattle.c_syntax.specs.Labels.{bare_clauses}
+use Rattle.c_syntax.specs.Graph.{with_bodies}
+use Rattle.mid_blocks.specs.Pruned.{pruned, OnlyReached}
+use Rattle.lower_rules.specs.Fitting.{Fitting}
+use Rattle.lower_rules.specs.Labels.{CasesAreWords}
+use Rattle.lower_calls_law.specs.LoweringChainsLaws.{OneEach}
+use Rattle.lower_rules.specs.Room.{within}
+use Rattle.mid_blocks.specs.declared.code.Mid.{Mid}
+use Rattle.c_syntax.specs.declared.tree.TopItem.{TopItem}
+use Rattle.lower_rules.specs.Programs.{low_program}
+use Rattle.lower_checked.specs.Fits.{CheckedFits}
+use Rattle.lower_checked.specs.Laws.{HasMain, HasFewBlocks, HasLightFrames, HasOneEach, HasRoom, Room, counter_pairs}
+use Rattle.lower_checked.specs.Counter.{NoneWhereFlat, CounterUnused, LoweredRoom, HasLoweredRoom}
 use Rattle.mid_lower.specs.Facts.{global_words, room_of, low_of, Facts}
 
 -- the laws of checked programs

@@ -1,4 +1,3 @@
-mod Used
-mod Composed
-mod Known
-mod Leaf
+pub mod Composed
+pub mod Known
+pub mod Leaf

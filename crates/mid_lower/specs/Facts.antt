@@ -1,21 +1,22 @@
 -- For private contracts alone: what is known of a checked program where it is lowered.
 use Rattle.std.specs.Prelude.{◌≡◌, ℕ, ◌+◌, ◌≤◌, Bool, List, map, sum, length, Some, slice_get}
-use Rattle.c_tree.specs.declared.tree.Function.{Function}
-use Rattle.c_tree.specs.Costs.{function_weight, program_cost}
-use Rattle.c_tree.specs.Meaning.{globals}
+use Rattle.c_syntax.specs.declared.tree.Function.{Function}
+use Rattle.c_syntax.specs.Costs.{function_weight, program_cost}
+use Rattle.c_meaning.specs.Meaning.{globals}
 use Rattle.check_rules.specs.Limits.{Resolved, resolved_names}
 use Rattle.check_rules.specs.Resolution.{IsChecked}
-use Rattle.mid_code.specs.declared.code.Mid.{Mid}
-use Rattle.mid_code.specs.Valid.{IsUsed}
-use Rattle.lowering_law.specs.Labels.{bare_clauses}
-use Rattle.lowering_law.specs.Programs.{object_words, with_bodies, in_number_order, low_program}
-use Rattle.lowering_law.specs.Pruned.{pruned, Closed, OnlyReached}
-use Rattle.lowering_law.specs.Fitting.{Fitting}
-use Rattle.lowering_words.specs.Labels.{CasesAreWords}
-use Rattle.lowering_chains.specs.Laws.{OneEach}
-use Rattle.lowering_chains.specs.Room.{room}
-use Rattle.compile_law.specs.Lowered.{IsLowered}
-use Rattle.mid_lower.specs.Trims.{Trims}
+use Rattle.mid_blocks.specs.declared.code.Mid.{Mid}
+use Rattle.mid_blocks.specs.Valid.{IsUsed}
+use Rattle.c_syntax.specs.Labels.{bare_clauses}
+use Rattle.c_syntax.specs.Graph.{with_bodies}
+use Rattle.lower_rules.specs.Programs.{object_words, in_number_order, low_program}
+use Rattle.mid_blocks.specs.Pruned.{pruned, Closed, OnlyReached}
+use Rattle.lower_rules.specs.Fitting.{Fitting}
+use Rattle.lower_rules.specs.Labels.{CasesAreWords}
+use Rattle.lower_calls_law.specs.LoweringChainsLaws.{OneEach}
+use Rattle.lower_rules.specs.Room.{room}
+use Rattle.lower_rules.specs.Lowered.{IsLowered}
+use Rattle.mid_prune.specs.Trims.{Trims}
 
 -- the words of the variables at file scope
 abbrev pub global_words : Resolved → ℕ

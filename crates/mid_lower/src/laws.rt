@@ -3,12 +3,11 @@
 ghost use Rattle.std.specs.Prelude.{◌≡◌};
 ghost use Rattle.mid_lower.specs.Facts.{Composes};
 
-use lowering_blocks::few_blocks;
-use lowering_chains::shallow_in_room;
-use lowering_law::{few_words, runs_as_tree, stays_proper};
-use lowering_trim::trimmed_stays;
-use lowering_valid::lowered_is_valid;
-use lowering_words::stays_words;
+use lower_calls_law::shallow_in_room;
+use lower_law::{few_words, runs_as_tree, stays_proper};
+use lower_size_law::{few_blocks, stays_words};
+use lower_valid_law::lowered_is_valid;
+use mid_prune::trimmed_stays;
 
 /// What a checked program is lowered to is what the passes below ask for.
 pub(crate) fn composes()

@@ -1,35 +1,31 @@
 //! Lowering.
 
 ghost use Rattle.std.specs.Prelude.{◌≡◌, IfOk, map, sum, length};
-ghost use Rattle.c_tree.specs.Meaning.{globals};
-ghost use Rattle.check_again.specs.Leaf.{IsLightLeaf};
+ghost use Rattle.c_meaning.specs.Meaning.{globals};
+ghost use Rattle.check_rules.specs.Leaf.{IsLightLeaf};
 ghost use Rattle.check_rules.specs.Limits.{resolved_names};
-ghost use Rattle.lowering_chains.specs.Room.{room};
-ghost use Rattle.lowering_law.specs.Labels.{bare_clauses};
-ghost use Rattle.lowering_law.specs.Programs.{with_bodies};
-ghost use Rattle.compile_law.specs.Lowered.{IsLowered};
-ghost use Rattle.small_leaf.specs.Leaf.{IsOneLeaf};
+ghost use Rattle.lower_rules.specs.Room.{room};
+ghost use Rattle.c_syntax.specs.Labels.{bare_clauses};
+ghost use Rattle.c_syntax.specs.Graph.{with_bodies};
+ghost use Rattle.lower_rules.specs.Lowered.{IsLowered};
+ghost use Rattle.mid_blocks.specs.Leaf.{IsOneLeaf};
 ghost use Rattle.mid_lower.specs.Facts.{Facts};
 
-use crate::globals::trim;
+use crate::call_room::room;
 use crate::laws::composes;
-use c_tree::TopItem;
-use call_graph::recursive_functions;
-use call_room::room;
+use c_calls::recursive_functions;
+use c_syntax::TopItem;
 use check_rules::Checked;
-use checked_fits::checked_fits;
-use checked_room::{
-    counter_unused, few_blocks, has_main, has_room, leads_inside, light_frames, lowered_room,
-    none_recursive, one_each,
-};
 use hard_words::OutOfMemory;
+use lower_checked::{
+    checked_fits, counter_unused, few_blocks, has_main, has_room, leads_inside, light_frames,
+    light_leaf_is_small, lowered_room, none_recursive, one_each, tree_holds_words,
+};
 use lower_functions::program;
-use lower_tables::{Names, shapes};
-use lowering_leaf::light_leaf_is_small;
-use mid_code::Mid;
-use prune_blocks::{prune, reached};
+use lower_names::{Names, shapes};
+use mid_blocks::Mid;
+use mid_prune::{prune, reached, trim};
 use std::alloc::Global;
-use tree_literals::tree_holds_words;
 
 /// What is known of a checked program where it is lowered.
 fn facts(checked: &Checked)

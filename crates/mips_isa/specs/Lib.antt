@@ -5,9 +5,3 @@ pub mod Machine
 pub mod Runs
 pub mod Image
 pub mod Locality
-pub mod RunLaws
-pub mod Text
-pub mod Blocks
-pub mod Faults
-pub mod Beside
-pub mod Turns

@@ -6,12 +6,12 @@
 //! a branch into a delay slot (Kane and Heinrich, *MIPS RISC Architecture*, chapters 3 and 4).
 #![tactic(auto)]
 
+ghost use Rattle.std.specs.Prelude.{◌≡◌, ◌≤◌, length, slice_index};
+
 mod boot;
 mod change;
 mod effects;
 mod steps;
-
-ghost use Rattle.std.specs.Prelude.{◌≡◌, ◌≤◌, length, slice_index};
 
 use hard_words::Words;
 pub use mips_isa::End;

@@ -2,19 +2,19 @@
 use Rattle.std.proofs.Common.{◌≡◌, ℕ, ◌<◌, Bool, false, List, length, Option, Some, sym, ap, ◌∙◌, arith, inl, inr, get_or}
 use Rattle.std.specs.Prelude.{slice_get, IfOk, Result, Ok, Err}
 use Rattle.std.proofs.lemmas.Bool.{cases_Bool}
-use Rattle.mid_code.specs.declared.code.MidFunction.{MidFunction}
-use Rattle.mid_code.specs.declared.places.Place.{Place}
-use Rattle.mid_code.specs.declared.places.Place.TheVariants.{Pair, Slot}
-use Rattle.mid_code.specs.declared.places.Places.{Places}
-use Rattle.mid_code.specs.Lines.{lines}
-use Rattle.mid_code.specs.Liveness.{IsLive, PlacesFit}
-use Rattle.mid_code.specs.Valid.{ValidFunction}
-use Rattle.register_halves.specs.declared.extents.Extent.{Extent}
-use Rattle.register_halves.specs.Met.{AreLives}
+use Rattle.mid_blocks.specs.declared.code.MidFunction.{MidFunction}
+use Rattle.mid_blocks.specs.declared.places.Place.{Place}
+use Rattle.mid_blocks.specs.declared.places.Place.TheVariants.{Pair, Slot}
+use Rattle.mid_blocks.specs.declared.places.Places.{Places}
+use Rattle.mid_blocks.specs.Lines.{lines}
+use Rattle.mid_blocks.specs.Liveness.{IsLive, PlacesFit}
+use Rattle.mid_blocks.specs.Valid.{ValidFunction}
+use Rattle.register_liveness.specs.declared.extents.Extent.{Extent}
+use Rattle.register_liveness.specs.Met.{AreLives}
 use Rattle.register_halves.specs.Fit.{PairsExist, FitWithin, IsUnfit, AreOwn, NoneAcross}
-use Rattle.mid_code.proofs.Positions.{get_within}
-use Rattle.register_halves.proofs.Meeting.{across_from, across_to}
-use Rattle.register_halves.proofs.Living.{live_position}
+use Rattle.mid_blocks.proofs.Positions.{get_within}
+use Rattle.register_liveness.proofs.Meeting.{across_from, across_to}
+use Rattle.register_liveness.proofs.Living.{live_position}
 use Rattle.register_halves.proofs.Taking.{slots_differ}
 
 pub if_ok_both : {T E : Type 0} (r : Result T E) (P Q R : T → Type 0) → ((x : T) → P x → Q x → R x) → IfOk r P → IfOk r Q → IfOk r R

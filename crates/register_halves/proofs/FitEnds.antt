@@ -2,20 +2,20 @@
 use Rattle.std.proofs.Common.{◌≡◌, ℕ, ◌+◌, ◌-◌, ◌<◌, ◌≤◌, List, [], ◌∷◌, length, Option, Some, sym, ap, ◌∙◌, subst, arith, inl, inr}
 use Rattle.std.specs.Prelude.{slice_get, ◌⊎◌}
 use Rattle.std.specs.List.{Contains}
-use Rattle.mid_code.specs.declared.code.MidBlock.{MidBlock}
-use Rattle.mid_code.specs.declared.code.MidStep.{MidStep}
-use Rattle.mid_code.specs.declared.code.MidFunction.{MidFunction}
-use Rattle.mid_code.specs.declared.places.Place.{Place}
-use Rattle.mid_code.specs.declared.places.Place.TheVariants.{Pair}
-use Rattle.mid_code.specs.Lines.{Line, Step, End, line_of, first_of}
-use Rattle.mid_code.specs.Liveness.{LineAt, IsWanted, IsLive}
-use Rattle.register_halves.specs.Uses.{successors}
-use Rattle.register_halves.specs.Met.{by_last}
+use Rattle.mid_blocks.specs.declared.code.MidBlock.{MidBlock}
+use Rattle.mid_blocks.specs.declared.code.MidStep.{MidStep}
+use Rattle.mid_blocks.specs.declared.code.MidFunction.{MidFunction}
+use Rattle.mid_blocks.specs.declared.places.Place.{Place}
+use Rattle.mid_blocks.specs.declared.places.Place.TheVariants.{Pair}
+use Rattle.mid_blocks.specs.Lines.{Line, Step, End, line_of, first_of}
+use Rattle.mid_blocks.specs.Liveness.{LineAt, IsWanted, IsLive}
+use Rattle.register_liveness.specs.Uses.{successors}
+use Rattle.register_liveness.specs.Met.{by_last}
 use Rattle.register_halves.specs.Fit.{row, Holds, AddsRow, ClashRow, AreStarts, IsUnfit, IsWantedBehind, HoldBehind, HoldAt}
-use Rattle.mid_code.proofs.Positions.{get_within, line_there, step_line, end_line, first_behind}
-use Rattle.register_halves.proofs.Wanted.{contains_head, contains_tail, contains_cases, leads_from, leads_back}
-use Rattle.register_halves.proofs.Links.{only_one}
-use Rattle.register_halves.proofs.Meeting.{met_live}
+use Rattle.mid_blocks.proofs.Positions.{get_within, line_there, step_line, end_line, first_behind}
+use Rattle.register_liveness.proofs.Wanted.{contains_head, contains_tail, contains_cases, leads_from, leads_back}
+use Rattle.register_liveness.proofs.Links.{only_one}
+use Rattle.register_liveness.proofs.Meeting.{met_live}
 use Rattle.register_halves.proofs.Fitting.{holds_same, holds_row, clash_row_shares}
 
 module _ (f : MidFunction) (places : List Place) (rows : List (Option ℕ)) (are : AreStarts f places rows f.variables) (one_each : length places ≡ f.variables) where

@@ -2,14 +2,14 @@
 use Rattle.std.proofs.Common.{◌≡◌, ◌≢◌, ℕ, ◌<◌, List, [], ◌∷◌, Option, Some, None, sym, ap, ◌∙◌, subst, inl, inr}
 use Rattle.std.specs.Prelude.{slice_get, ◌⊎◌}
 use Rattle.std.specs.List.{Contains}
-use Rattle.mid_code.specs.declared.code.MidFunction.{MidFunction}
-use Rattle.mid_code.specs.declared.places.Place.{Place}
-use Rattle.mid_code.specs.Lines.{Line, line_reads, line_writes}
-use Rattle.mid_code.specs.Liveness.{LineAt, IsWanted, IsLive, written, wanted, parameter}
+use Rattle.mid_blocks.specs.declared.code.MidFunction.{MidFunction}
+use Rattle.mid_blocks.specs.declared.places.Place.{Place}
+use Rattle.mid_blocks.specs.Lines.{Line, line_reads, line_writes}
+use Rattle.mid_blocks.specs.Liveness.{LineAt, IsWanted, IsLive, written, wanted, parameter}
 use Rattle.register_halves.specs.Fit.{Adds, Clash, Drops, Holds, AddsParams, ClashParams, HasRoom, IsUnfit, FitsAt, IsWantedBehind, PairsExist}
 use Rattle.register_halves.proofs.Fitting.{holds_same, holds_adds, holds_drops, holds_apart, holds_params, Sharing, clash_shares, clash_params_shares}
-use Rattle.register_halves.proofs.Links.{only_one}
-use Rattle.mid_code.proofs.LiveLines.{wanted_by, wanted_from, live_by}
+use Rattle.register_liveness.proofs.Links.{only_one}
+use Rattle.mid_blocks.proofs.LiveLines.{wanted_by, wanted_from, live_by}
 
 module _ (f : MidFunction) (places : List Place) (at : ℕ) (line : Line) (there : LineAt f at line) where
   -- what is wanted behind the line and not written by it

@@ -1,13 +1,5 @@
-pub mod Wanted
-pub mod Meeting
-pub mod Rows
-pub mod Valid
-pub mod Links
-pub mod Searching
 pub mod Taking
 pub mod Fitting
-pub mod Widening
-pub mod Living
 pub mod Gathered
 pub mod Starting
 pub mod StartRows
@@ -15,3 +7,4 @@ pub mod FitLines
 pub mod FitEnds
 pub mod Deciding
 pub mod Enough
+pub mod Slots

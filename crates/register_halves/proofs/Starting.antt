@@ -9,16 +9,16 @@ use Rattle.std.proofs.lemmas.List.Edits.{swap_is, length-swap}
 use Rattle.std.proofs.lemmas.List.Elements.{All-push, Contains-push_cases, Contains-get_or}
 use Rattle.std.proofs.lemmas.List.Quantifiers.{all_pairs_push}
 use Rattle.std.proofs.lemmas.List.Sorted.{All-permutation, Contains-permutation, IsPermutation-keeps}
-use Rattle.mid_code.specs.declared.code.MidFunction.{MidFunction}
-use Rattle.mid_code.specs.declared.places.Place.{Place}
-use Rattle.mid_code.specs.declared.places.Place.TheVariants.{Pair, Slot}
-use Rattle.mid_code.specs.Liveness.{IsLiveAcross, own_slot}
+use Rattle.mid_blocks.specs.declared.code.MidFunction.{MidFunction}
+use Rattle.mid_blocks.specs.declared.places.Place.{Place}
+use Rattle.mid_blocks.specs.declared.places.Place.TheVariants.{Pair, Slot}
+use Rattle.mid_blocks.specs.Liveness.{IsLiveAcross, own_slot}
 use Rattle.register_halves.specs.declared.gather.Span.{Span}
-use Rattle.register_halves.specs.Met.{CallBefore}
+use Rattle.register_liveness.specs.Met.{CallBefore}
 use Rattle.register_halves.specs.Spans.{IsSpan, AreSpans}
 use Rattle.register_halves.specs.Assigned.{IsLocal, AreLocals, IsStart}
-use Rattle.mid_code.proofs.Positions.{get_within, get_left, get_right}
-use Rattle.register_halves.proofs.Meeting.{across_from, across_to}
+use Rattle.mid_blocks.proofs.Positions.{get_within, get_left, get_right}
+use Rattle.register_liveness.proofs.Meeting.{across_from, across_to}
 
 module _ (f : MidFunction) where
   -- the places of the variables below one

@@ -7,15 +7,15 @@ use Rattle.std.proofs.lemmas.Bool.{cases_lt, cases_eq, cases_Bool, lt-ltb, le-lt
 use Rattle.std.proofs.lemmas.List.{get_or-set_same, get_or-set_other, get_or_append_left, get_or_push, get_or_default, get_or-take, length_push, length-map, length-take, take_more, take_all}
 use Rattle.std.proofs.lemmas.List.Sums.{sum_by-set, sum_by_push, sum_by-cons, length-filter}
 use Rattle.std.proofs.lemmas.List.Elements.{Contains-push_cases, All-from_recursion, recursion_from_All}
-use Rattle.mid_code.specs.declared.code.MidFunction.{MidFunction}
-use Rattle.mid_code.specs.declared.places.Place.{Place}
-use Rattle.mid_code.specs.declared.places.Place.TheVariants.{Pair, Slot}
-use Rattle.mid_code.specs.declared.places.Places.{Places}
-use Rattle.mid_code.specs.Liveness.{IsLive, IsLiveAcross, own_slot}
+use Rattle.mid_blocks.specs.declared.code.MidFunction.{MidFunction}
+use Rattle.mid_blocks.specs.declared.places.Place.{Place}
+use Rattle.mid_blocks.specs.declared.places.Place.TheVariants.{Pair, Slot}
+use Rattle.mid_blocks.specs.declared.places.Places.{Places}
+use Rattle.mid_blocks.specs.Liveness.{IsLive, IsLiveAcross, own_slot}
 use Rattle.register_halves.specs.declared.gather.Span.{Span}
 use Rattle.register_halves.specs.Spans.{IsSpan}
 use Rattle.register_halves.specs.Assigned.{InSpan, IsLocal, FewOverlap, AreAssigned, AreLocals, IsStart, IsTaken}
-use Rattle.mid_code.proofs.Positions.{get_within}
+use Rattle.mid_blocks.proofs.Positions.{get_within}
 
 pub get_set_same : {X : Type 0} (xs : List X) (i : ℕ) (y : X) → i < length xs → slice_get (slice_set xs i y) i ≡ Some y
 get_set_same [] i y h = absurd (omega arith)

@@ -2,14 +2,14 @@
 use Rattle.std.specs.Prelude.{◌≡◌, ◌≢◌, ◌⊎◌, ℕ, ◌<◌, ◌≤◌, List, Option, Some, None, length, slice_get, slice_index}
 use Rattle.std.specs.List.{All, AllPairs, Any, Contains}
 use Rattle.std.specs.List.Sorted.{IsNonDecreasingBy}
-use Rattle.mid_code.specs.declared.places.Place.{Place}
+use Rattle.mid_blocks.specs.declared.places.Place.{Place}
 use Rattle.register_halves.specs.declared.gather.Span.{Span}
 use Rattle.register_halves.specs.Spans.{IsSpan}
-use Rattle.mid_code.specs.declared.code.MidFunction.{MidFunction}
-use Rattle.mid_code.specs.declared.places.Place.TheVariants.{Pair, Slot}
-use Rattle.mid_code.specs.declared.places.Places.{Places}
-use Rattle.mid_code.specs.Valid.{ValidFunction}
-use Rattle.mid_code.specs.Liveness.{IsLive, IsLiveAcross, PlaceOf, PlacesFit, own_slot}
+use Rattle.mid_blocks.specs.declared.code.MidFunction.{MidFunction}
+use Rattle.mid_blocks.specs.declared.places.Place.TheVariants.{Pair, Slot}
+use Rattle.mid_blocks.specs.declared.places.Places.{Places}
+use Rattle.mid_blocks.specs.Valid.{ValidFunction}
+use Rattle.mid_blocks.specs.Liveness.{IsLive, IsLiveAcross, PlaceOf, PlacesFit, own_slot}
 
 -- a position lies in the span of a variable: the variable is live there or before, and there or behind
 pub record InSpan (f : MidFunction) (v at : ℕ) : Type 0 where

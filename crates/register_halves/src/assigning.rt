@@ -3,17 +3,16 @@
 ghost use Rattle.std.specs.Prelude.{◌≡◌, ℕ, ◌+◌, ◌<◌, ◌≤◌, ◌^◌, Some, true, false, IfOk, length, slice_index, vec_len};
 ghost use Rattle.std.specs.List.{All, AllPairs};
 ghost use Rattle.std.specs.List.Sorted.{IsPermutation, IsNonDecreasingBy};
-ghost use Rattle.mid_code.specs.Liveness.{own_slot};
-ghost use Rattle.mid_code.specs.Valid.{ValidFunction};
-ghost use Rattle.register_halves.specs.Met.{AreLives};
+ghost use Rattle.mid_blocks.specs.Liveness.{own_slot};
+ghost use Rattle.mid_blocks.specs.Valid.{ValidFunction};
+ghost use Rattle.register_liveness.specs.Met.{AreLives};
 ghost use Rattle.register_halves.specs.Spans.{AreSpans};
 ghost use Rattle.register_halves.specs.Assigned.{AreAssigned, AreLocals, IsStart, IsFreePair, IsTaken};
 
-use crate::extents::Lives;
 use crate::gather::{Span, spans_of};
-use crate::search::Flow;
-use hard_words::OutOfMemory;
-use mid_code::{MidFunction, Place, Places, Sequence};
+use hard_words::{OutOfMemory, Sequence};
+use mid_blocks::{MidFunction, Place, Places};
+use register_liveness::{Flow, Lives};
 use std::alloc::Global;
 
 /// The slot of a variable: a parameter's is where its caller stored it.

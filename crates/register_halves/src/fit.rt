@@ -1,19 +1,17 @@
 //! Whether places fit.
 
 ghost use Rattle.std.specs.Prelude.{◌≡◌, ℕ, ◌+◌, ◌*◌, ◌^◌, ◌<◌, ◌≤◌, [], ◌∷◌, Some, None, true, false, OnOk, IfOk, length, slice_get, vec_len, MatchOption, IsTrue, ◌↔◌};
-ghost use Rattle.mid_code.specs.Lines.{lines, line_of, first_of};
-ghost use Rattle.mid_code.specs.Liveness.{LineAt, PlacesFit};
-ghost use Rattle.mid_code.specs.Valid.{ValidFunction};
-ghost use Rattle.register_halves.specs.Search.{IsFlow};
+ghost use Rattle.mid_blocks.specs.Lines.{lines, line_of, first_of};
+ghost use Rattle.mid_blocks.specs.Liveness.{LineAt, PlacesFit};
+ghost use Rattle.mid_blocks.specs.Valid.{ValidFunction};
+ghost use Rattle.register_liveness.specs.Search.{IsFlow};
 ghost use Rattle.std.specs.List.{All};
 ghost use Rattle.register_halves.specs.Fit.{PairsExist, Adds, Clash, Drops, AreIn, AddsRow, ClashRow, row, Puts, IsTakenAt, AreStarts, IsUnfit, HasRoom, AddsParams, ClashParams, IsWriteAt, AreReadsAt, HoldBehind, HoldAt, FitsAt, FitWithin, Holds, AreOwn, NoneAcross};
 
 use crate::assigning::own_slot;
-use crate::extents::Lives;
-use crate::search::{Flow, wanted_blocks};
-use crate::uses::line_uses;
 use hard_words::OutOfMemory;
-use mid_code::{MidBlock, MidEnd, MidFunction, Place, Places};
+use mid_blocks::{MidBlock, MidEnd, MidFunction, Place, Places};
+use register_liveness::{Flow, Lives, line_uses, wanted_blocks};
 use std::alloc::Global;
 
 /// A variable comes to those that hold pairs; false where another holds its pair.

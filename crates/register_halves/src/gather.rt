@@ -1,14 +1,13 @@
 //! From where to where the variables of a function are live.
 
 ghost use Rattle.std.specs.Prelude.{◌≡◌, ℕ, ◌<◌, ◌≤◌, IfOk, length};
-ghost use Rattle.mid_code.specs.Valid.{ValidFunction};
-ghost use Rattle.register_halves.specs.Met.{AreLives};
+ghost use Rattle.mid_blocks.specs.Valid.{ValidFunction};
+ghost use Rattle.register_liveness.specs.Met.{AreLives};
 ghost use Rattle.register_halves.specs.Spans.{AreSpans};
 
-use crate::extents::Lives;
-use crate::search::Flow;
 use hard_words::OutOfMemory;
-use mid_code::MidFunction;
+use mid_blocks::MidFunction;
+use register_liveness::{Flow, Lives};
 use std::alloc::Global;
 
 /// From the first to the last position where a variable is live.

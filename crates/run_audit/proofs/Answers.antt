@@ -3,8 +3,8 @@ use Rattle.std.proofs.Common.{◌≡◌, ℕ, ◌+◌, ◌≤◌, ◌<◌, arith
 use Rattle.std.specs.Prelude.{None, ◌⊎◌, Result, Ok, Err}
 use Rattle.mips_isa.specs.declared.instr.End.TheVariants as ends
 use Rattle.mips_isa.specs.Image.{ImageFields}
-use Rattle.mips_isa.specs.RunLaws.{EndStays}
-use Rattle.mips_isa.specs.Faults.{PlacedFor}
+use Rattle.mips_laws.specs.RunLaws.{EndStays}
+use Rattle.mips_faults.specs.Faults.{PlacedFor}
 use Rattle.harden_lint.specs.Rules.{WellTyped, BadAt}
 use Rattle.harden_lint.proofs.Exact.{of_obeys}
 use Rattle.run_audit.specs.declared.error.AuditError.{AuditError}

@@ -7,10 +7,10 @@ use Rattle.mips_isa.specs.declared.instr.End.{End}
 use Rattle.mips_isa.specs.declared.instr.End.TheVariants as ends
 use Rattle.mips_isa.specs.Machine.{State, step, step_from, perform, planned, moved, with_reg, reg, place, in_memory, ended}
 use Rattle.mips_isa.specs.Runs.{Ran}
-use Rattle.mips_isa.specs.RunLaws.{EndStays}
+use Rattle.mips_laws.specs.RunLaws.{EndStays}
 use Rattle.mips_isa.specs.Image.{ImageFields, boot_state}
-use Rattle.mips_isa.specs.Blocks.{IsStart}
-use Rattle.mips_isa.specs.Faults.{IsPlaced, PlacedFor}
+use Rattle.mips_text.specs.Blocks.{IsStart}
+use Rattle.mips_faults.specs.Faults.{IsPlaced, PlacedFor}
 use Rattle.harden_lint.specs.Rules.{WellTyped}
 use Rattle.run_audit.specs.declared.turns.Turn.TheVariants as turns
 use Rattle.run_audit.specs.Audits.{clean, Misplaces, Reports, Passes}

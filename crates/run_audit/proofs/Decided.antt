@@ -2,10 +2,10 @@
 use Rattle.std.proofs.Common.{◌≡◌, ◌⊎◌, inl, inr, ℕ, zero, suc, ◌+◌, ◌*◌, ◌≤◌, ◌<◌, arith, refl, subst, List, length, Bool, true, false, add-one}
 use Rattle.std.specs.Prelude.{Option, None, is_some, replicate}
 use Rattle.mips_isa.specs.Machine.{State, step}
-use Rattle.mips_isa.specs.Text.{IsText}
-use Rattle.mips_isa.specs.Blocks.{IsStart}
+use Rattle.mips_text.specs.Text.{IsText}
+use Rattle.mips_text.specs.Blocks.{IsStart}
 use Rattle.mips_isa.specs.Image.{ImageFields}
-use Rattle.mips_isa.specs.RunLaws.{EndStays}
+use Rattle.mips_laws.specs.RunLaws.{EndStays}
 use Rattle.lint_words.specs.Words.{made}
 use Rattle.harden_lint.specs.Rules.{WellTyped}
 use Rattle.harden_lint.specs.StartTable.{Below, marked, marked_if}

@@ -7,9 +7,9 @@ use Rattle.mips_isa.specs.declared.instr.Instr.TheVariants.{Jr, Lw, Sw}
 use Rattle.mips_isa.specs.declared.instr.End.{End}
 use Rattle.mips_isa.specs.declared.instr.End.TheVariants as ends
 use Rattle.mips_isa.specs.Machine.{State, step, reg, plus, text_place}
-use Rattle.mips_isa.specs.Text.{InText, At, instr_at}
-use Rattle.mips_isa.specs.Blocks.{IsStart, HeadAt, Head}
-use Rattle.mips_isa.specs.Faults.{in_even, in_odd, Moves, IsPlaced}
+use Rattle.mips_text.specs.Text.{InText, At, instr_at}
+use Rattle.mips_text.specs.Blocks.{IsStart, HeadAt, Head}
+use Rattle.mips_faults.specs.Faults.{in_even, in_odd, Moves, IsPlaced}
 use Rattle.lint_words.specs.Words.{in_words}
 use Rattle.lint_words.specs.Around.{starts_at}
 use Rattle.harden_lint.specs.Rules.{WellTyped}

@@ -3,8 +3,8 @@ use Rattle.std.proofs.Common.{◌≡◌, ℕ, ◌+◌, ◌-◌, ◌*◌, ◌/◌
 use Rattle.std.specs.Prelude.{Option, Some, None, ◌⊎◌, slice_set, replicate}
 use Rattle.std.proofs.lemmas.Grind.{common_steps}
 use Rattle.mips_isa.specs.Machine.{text_place}
-use Rattle.mips_isa.specs.Text.{InText}
-use Rattle.mips_isa.specs.Blocks.{IsStart}
+use Rattle.mips_text.specs.Text.{InText}
+use Rattle.mips_text.specs.Blocks.{IsStart}
 use Rattle.lint_words.specs.Words.{made, in_words}
 use Rattle.harden_lint.specs.StartTable.{Below, marked, marked_if}
 use Rattle.harden_lint.proofs.StartTable.{none_some, some_same, in_words_text, text_in_words, below_all, below_start}

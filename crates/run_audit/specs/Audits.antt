@@ -6,11 +6,11 @@ use Rattle.hard_words.specs.declared.SetPlace.{SetPlace}
 use Rattle.mips_isa.specs.declared.instr.End.TheVariants.{Reported}
 use Rattle.mips_isa.specs.Machine.{State}
 use Rattle.mips_isa.specs.Image.{ImageFields}
-use Rattle.mips_isa.specs.Text.{IsText, Near}
-use Rattle.mips_isa.specs.Faults.{image_run, IsSet, IsDetected, IsPlaced, PlacedFor, UnreportedFor}
+use Rattle.mips_text.specs.Text.{IsText, Near}
+use Rattle.mips_faults.specs.Faults.{image_run, IsSet, IsDetected, IsPlaced, PlacedFor, UnreportedFor}
 use Rattle.harden_lint.specs.Rules.{WellTyped, BadAt}
 use Rattle.harden_lint.specs.Theorems.{IsFree, FlipShown}
-use Rattle.window_lister.specs.WindowList.{AreWindows}
+use Rattle.lint_words.specs.WindowList.{AreWindows}
 use Rattle.run_audit.specs.declared.error.AuditError.{AuditError}
 use Rattle.run_audit.specs.declared.error.AuditError.TheVariants as errors
 

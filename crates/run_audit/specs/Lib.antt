@@ -1,3 +1,4 @@
 pub mod Audits
 pub mod Errors
 pub mod Turns
+pub mod AuditLines

@@ -7,9 +7,9 @@ use Rattle.mips_isa.specs.declared.instr.Instr.TheVariants.{Jr, Lw, Sw}
 use Rattle.mips_isa.specs.declared.instr.End.{End}
 use Rattle.mips_isa.specs.declared.instr.End.TheVariants as ends
 use Rattle.mips_isa.specs.Machine.{State, reg, plus, text_place}
-use Rattle.mips_isa.specs.Text.{InText, instr_at}
+use Rattle.mips_text.specs.Text.{InText, instr_at}
 use Rattle.mips_isa.specs.Image.{ImageFields}
-use Rattle.mips_isa.specs.Faults.{in_even, in_odd, PlacedFor, UnreportedFor}
+use Rattle.mips_faults.specs.Faults.{in_even, in_odd, PlacedFor, UnreportedFor}
 use Rattle.lint_words.specs.Around.{starts_at}
 use Rattle.run_audit.specs.declared.error.AuditError.{AuditError}
 use Rattle.run_audit.specs.declared.error.AuditError.TheVariants as errors

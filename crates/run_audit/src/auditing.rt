@@ -7,13 +7,13 @@ ghost use Rattle.run_audit.specs.Audits.{Passes, IsRefused, AuditedRun, IsAnswer
 ghost use Rattle.run_audit.specs.Turns.{Judged};
 ghost use Rattle.run_audit.specs.declared.error.AuditError.{AuditError};
 
-use crate::AuditError;
+use crate::error::AuditError;
 use crate::starts::find_starts;
 use crate::turns::walk;
 use elf_image::Image;
 use harden_lint::{lint, shows_flip_within, shows_within};
 use lint_words::WordTable;
-use mips_isa::end_stays;
+use mips_laws::end_stays;
 use mips_machine::Machine;
 use std::alloc::Global;
 

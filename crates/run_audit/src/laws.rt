@@ -3,7 +3,7 @@
 ghost use Rattle.run_audit.specs.Audits.{NeverBoth, PassesOrRefused};
 
 use harden_lint::typed_or_bad;
-use mips_isa::end_stays;
+use mips_laws::end_stays;
 
 /// No run passes and is refused.
 pub fn never_both()

@@ -9,6 +9,7 @@ mod auditing;
 mod count;
 mod error;
 mod laws;
+mod lines;
 mod starts;
 mod turns;
 
@@ -16,3 +17,4 @@ pub use auditing::audit;
 pub use count::window_count;
 pub use error::AuditError;
 pub use laws::{never_both, passes_or_refused};
+pub use lines::{no_line, steps_line, windows_line, yes_line};

@@ -1,8 +1,8 @@
 //! The starts of a text, as a table of its words.
 
 ghost use Rattle.std.specs.Prelude.{◌≡◌, IfOk};
-ghost use Rattle.mips_isa.specs.Text.{IsText};
-ghost use Rattle.mips_isa.specs.Blocks.{IsStart};
+ghost use Rattle.mips_text.specs.Text.{IsText};
+ghost use Rattle.mips_text.specs.Blocks.{IsStart};
 ghost use Rattle.harden_lint.specs.StartTable.{marked, marked_if};
 ghost use Rattle.run_audit.specs.Turns.{Bits};
 

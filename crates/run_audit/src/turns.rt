@@ -4,16 +4,17 @@ ghost use Rattle.std.specs.Prelude.{◌≡◌, ◌<◌, ℕ, List, IfSome, slice
 ghost use Rattle.hard_words.specs.Words.{extended};
 ghost use Rattle.mips_isa.specs.Table.{IsInRange};
 ghost use Rattle.mips_isa.specs.Machine.{step, plus};
-ghost use Rattle.mips_isa.specs.Blocks.{IsStart};
-ghost use Rattle.mips_isa.specs.Faults.{in_even, in_odd};
+ghost use Rattle.mips_text.specs.Blocks.{IsStart};
+ghost use Rattle.mips_faults.specs.Faults.{in_even, in_odd};
 ghost use Rattle.mips_isa.specs.Image.{ImageFields, boot_state};
 ghost use Rattle.mips_machine.specs.View.{state_of};
 ghost use Rattle.harden_lint.specs.Rules.{WellTyped};
 ghost use Rattle.run_audit.specs.Turns.{Bits, in_half, stands_by, stands, told_by, Judged};
 
-use crate::AuditError;
+use crate::error::AuditError;
 use lint_words::{WordTable, instr_at, starts_at};
-use mips_isa::{End, Instr, end_stays};
+use mips_isa::{End, Instr};
+use mips_laws::end_stays;
 use mips_machine::Machine;
 
 /// What a step of the clean run tells.

@@ -1,9 +1,9 @@
 -- The marks of a program of items that are those of its graph.
 use Rattle.std.specs.Prelude.{◌≡◌, ℕ, List, length, map}
-use Rattle.mips_isa.specs.Blocks as Blocks
-use Rattle.hard_code.specs.declared.code.HardProgram.{HardProgram}
-use Rattle.hard_code.specs.declared.code.Mark.{Mark}
-use Rattle.hard_code.specs.declared.code.Signed.{Signed}
+use Rattle.mips_text.specs.Blocks as Blocks
+use Rattle.hard_items.specs.declared.code.HardProgram.{HardProgram}
+use Rattle.hard_items.specs.declared.code.Mark.{Mark}
+use Rattle.hard_items.specs.declared.code.Signed.{Signed}
 use Rattle.sign_law.specs.Signs.{AreSigned}
 
 -- The successors of each block.

@@ -6,16 +6,16 @@ use Rattle.std.proofs.lemmas.Option.{slice_get_past}
 use Rattle.mips_isa.specs.declared.instr.Instr.{Instr}
 use Rattle.mips_isa.specs.declared.instr.Instr.TheVariants.{Sll, Addu, Beq, Bne, Break, J, Jal, Jr, Lui, Lw, Ori, Sw, Syscall}
 use Rattle.mips_isa.specs.Machine.{among}
-use Rattle.hard_code.specs.declared.code.Class.{Class}
-use Rattle.hard_code.specs.declared.code.Class.TheVariants.{Master, Shadow, Check, Act, Head, Input}
-use Rattle.hard_code.specs.declared.code.Fix.TheVariants.{Plain, Block, Function}
-use Rattle.hard_code.specs.declared.code.Item.{Item}
-use Rattle.hard_code.specs.declared.code.HardBlock.{HardBlock}
-use Rattle.hard_code.specs.declared.code.HardProgram.{HardProgram}
-use Rattle.hard_code.specs.Streams.{touched, nop, plain, is_master, is_shadow, shadow_of, is_of, is_stream}
-use Rattle.hard_code.specs.Run.{items_of, block_items}
-use Rattle.hard_code.specs.Forms.{Each, Form, Alone, Product, Store, Test, Output, Takes, Idle, Close, Jump, Branch, Call, Return, Exit, check, check_if, service_number, form_items, going, close_items, block_of, is_value, MayTouch, FormFits, CloseFits, Formed}
-use Rattle.hard_code.specs.Rules.{Apart}
+use Rattle.hard_items.specs.declared.code.Class.{Class}
+use Rattle.hard_items.specs.declared.code.Class.TheVariants.{Master, Shadow, Check, Act, Head, Input}
+use Rattle.hard_items.specs.declared.code.Fix.TheVariants.{Plain, Block, Function}
+use Rattle.hard_items.specs.declared.code.Item.{Item}
+use Rattle.hard_items.specs.declared.code.HardBlock.{HardBlock}
+use Rattle.hard_items.specs.declared.code.HardProgram.{HardProgram}
+use Rattle.hard_items.specs.Streams.{touched, nop, plain, is_master, is_shadow, shadow_of, is_of, is_stream}
+use Rattle.hard_items.specs.Run.{items_of, block_items}
+use Rattle.hard_items.specs.Forms.{Each, Form, Alone, Product, Store, Test, Output, Takes, Idle, Close, Jump, Branch, Call, Return, Exit, check, check_if, service_number, form_items, going, close_items, block_of, is_value, MayTouch, FormFits, CloseFits, Formed}
+use Rattle.hard_items.specs.Rules.{Apart}
 use Rattle.signature_assign.specs.Headed.{IsSign, Spares, BlocksFit}
 use Rattle.signature_assign.proofs.Near.{Free, free_zero, free_two, free_four}
 

@@ -1,16 +1,16 @@
 -- The run with heads follows the run without them.
 use Rattle.std.proofs.Common.{◌≡◌, ◌≢◌, ◌≤◌, ℕ, zero, suc, ◌+◌, ◌<◌, arith, rules, ap, refl, sym, ◌∙◌, subst, List, [], ◌∷◌, ◌++◌, length, false, true, Bool, inl, inr}
 use Rattle.std.specs.Prelude.{Option, Some, None, ◌⊎◌}
-use Rattle.hard_words.specs.Observed.{SameObserved}
-use Rattle.hard_words.specs.Stepping.{Stepper, Quiet, Leads, Stage, Beside, on as beside, over as both_over, Follows, Always, put, go, Stands as Rests}
-use Rattle.hard_words.proofs.Following.{follows}
+use Rattle.hard_runs.specs.Observed.{SameObserved}
+use Rattle.hard_runs.specs.Stepping.{Stepper, Quiet, Leads, Stage, Beside, on as beside, over as both_over, Follows, Always, put, go, Stands as Rests}
+use Rattle.hard_runs.proofs.Following.{follows}
 use Rattle.mips_isa.specs.declared.instr.End.{End}
 use Rattle.mips_isa.specs.declared.instr.End.TheVariants.{Reported}
-use Rattle.hard_code.specs.declared.code.Item.{Item}
-use Rattle.hard_code.specs.declared.code.HardProgram.{HardProgram}
-use Rattle.hard_code.specs.declared.code.Signed.{Signed}
-use Rattle.hard_code.specs.Run.{Data, Spot, Way, Onward, items, items_of, at_block, first_spot, first_data, item_run, held}
-use Rattle.hard_code.specs.Heads.{headed, head_items, signed_run}
+use Rattle.hard_items.specs.declared.code.Item.{Item}
+use Rattle.hard_items.specs.declared.code.HardProgram.{HardProgram}
+use Rattle.hard_items.specs.declared.code.Signed.{Signed}
+use Rattle.hard_items.specs.Run.{Data, Spot, Way, Onward, items, items_of, at_block, first_spot, first_data, item_run, held}
+use Rattle.hard_items.specs.Heads.{headed, head_items, signed_run}
 use Rattle.signature_assign.specs.Headed.{Spares, Legal, OrderlyNext, OrderlyAt, mark_at, found, HeadsPass, IsClosed, Near, Level, Stands, in_head, level}
 use Rattle.signature_assign.proofs.Step.{Rel, inside, entering, Stepped, on, over, Kept, at_rest, item_steps}
 use Rattle.signature_assign.proofs.Head.{headed_items, Held, Through, through}

@@ -1,24 +1,24 @@
 -- The run with heads through the head of a block: six quiet steps that change the registers of the signatures alone.
 use Rattle.std.proofs.Common.{◌≡◌, ◌≢◌, ℕ, zero, suc, ◌+◌, ◌<◌, arith, rules, ap, refl, sym, ◌∙◌, subst, List, [], ◌∷◌, ◌++◌, length, get_or, false, true, Bool, cond, inl, inr}
 use Rattle.std.specs.Prelude.{Option, Some, None, ◌⊎◌, ◌==◌, slice_index, slice_get, bit_or, bit_xor, if◌then◌else◌}
-use Rattle.hard_words.specs.Stepping.{Stepper, Quiet, Leads}
-use Rattle.hard_words.proofs.Following.{leads_on}
+use Rattle.hard_runs.specs.Stepping.{Stepper, Quiet, Leads}
+use Rattle.hard_runs.proofs.Following.{leads_on}
 use Rattle.mips_isa.specs.declared.instr.Instr.TheVariants.{Xori, Xor, Ori, Beq, Break, Sll}
 use Rattle.mips_isa.specs.declared.instr.Act.{Act}
 use Rattle.mips_isa.specs.declared.instr.Act.TheVariants.{Pass}
 use Rattle.mips_isa.specs.declared.instr.End.{End}
 use Rattle.mips_isa.specs.Machine.{State, act, perform, written, branch}
-use Rattle.mips_isa.specs.Beside.{SameKept}
-use Rattle.harden_divert.proofs.Ground.{written_here, written_there, written_zero, written_long}
-use Rattle.hard_code.specs.declared.code.Class.TheVariants.{Head}
-use Rattle.hard_code.specs.declared.code.Item.{Item}
-use Rattle.hard_code.specs.declared.code.HardBlock.{HardBlock}
-use Rattle.hard_code.specs.declared.code.HardProgram.{HardProgram}
-use Rattle.hard_code.specs.declared.code.Mark.{Mark}
-use Rattle.hard_code.specs.declared.code.Signed.{Signed}
-use Rattle.hard_code.specs.Streams.{nop, plain}
-use Rattle.hard_code.specs.Run.{Data, Spot, Way, Onward, Over, To, items, items_of, block_items, machine_of, held, marked, marked_reg, do_item, item_act, way_of, at_block, numbered, completed, settled}
-use Rattle.hard_code.specs.Heads.{headed, head_items, with_heads}
+use Rattle.mips_faults.specs.Beside.{SameKept}
+use Rattle.lint_theorem.proofs.Ground.{written_here, written_there, written_zero, written_long}
+use Rattle.hard_items.specs.declared.code.Class.TheVariants.{Head}
+use Rattle.hard_items.specs.declared.code.Item.{Item}
+use Rattle.hard_items.specs.declared.code.HardBlock.{HardBlock}
+use Rattle.hard_items.specs.declared.code.HardProgram.{HardProgram}
+use Rattle.hard_items.specs.declared.code.Mark.{Mark}
+use Rattle.hard_items.specs.declared.code.Signed.{Signed}
+use Rattle.hard_items.specs.Streams.{nop, plain}
+use Rattle.hard_items.specs.Run.{Data, Spot, Way, Onward, Over, To, items, items_of, block_items, machine_of, held, marked, marked_reg, do_item, item_act, way_of, at_block, numbered, completed, settled}
+use Rattle.hard_items.specs.Heads.{headed, head_items, with_heads}
 use Rattle.signature_assign.specs.Headed.{IsSign, mark_at, found, with_other, Near, Stands, in_head}
 use Rattle.signature_assign.proofs.Near.{Free}
 use Rattle.signature_assign.proofs.Step.{Kept, at_rest}

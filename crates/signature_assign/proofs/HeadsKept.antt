@@ -1,8 +1,8 @@
 -- The run of a signed program with its heads is the run of the program.
 use Rattle.std.proofs.Common.{◌≡◌, ℕ, List}
 use Rattle.mips_isa.specs.declared.instr.End.TheVariants.{Reported}
-use Rattle.hard_code.specs.declared.code.Signed.{Signed}
-use Rattle.hard_code.specs.Heads.{headed}
+use Rattle.hard_items.specs.declared.code.Signed.{Signed}
+use Rattle.hard_items.specs.Heads.{headed}
 use Rattle.signature_assign.specs.Headed.{HeadsKeep, HeadsNeverReport}
 use Rattle.signature_assign.proofs.Premises.{heads_pass, closed}
 use Rattle.signature_assign.proofs.Orderly.{orderly}

@@ -8,15 +8,15 @@ use Rattle.mips_isa.specs.declared.instr.End.{End}
 use Rattle.mips_isa.specs.declared.instr.End.TheVariants.{Exception, Exited, Starved}
 use Rattle.mips_isa.specs.Machine.{State, reg, act, perform, moved, with_reg, written, plus, load, store, service, ended, in_memory, place, among, reads_of, writes_of}
 use Rattle.mips_isa.specs.Locality.{Agree, is_move, Puts}
-use Rattle.mips_isa.specs.Beside.{SameKept}
-use Rattle.mips_isa.proofs.Beside.{written_equal}
-use Rattle.mips_isa.proofs.Locality.{same_act, puts}
-use Rattle.harden_divert.proofs.Ground.{written_there, written_zero, written_long}
-use Rattle.hard_code.specs.declared.code.Item.{Item}
-use Rattle.hard_code.specs.declared.code.Fix.{Fix}
-use Rattle.hard_code.specs.declared.code.Fix.TheVariants.{Plain, Block, Function, ReturnHigh, ReturnLow}
-use Rattle.hard_code.specs.Streams.{touched}
-use Rattle.hard_code.specs.Run.{Data, item_act, machine_of, numbered, completed, held}
+use Rattle.mips_faults.specs.Beside.{SameKept}
+use Rattle.mips_laws.proofs.Beside.{written_equal}
+use Rattle.mips_laws.proofs.Locality.{same_act, puts}
+use Rattle.lint_theorem.proofs.Ground.{written_there, written_zero, written_long}
+use Rattle.hard_items.specs.declared.code.Item.{Item}
+use Rattle.hard_items.specs.declared.code.Fix.{Fix}
+use Rattle.hard_items.specs.declared.code.Fix.TheVariants.{Plain, Block, Function, ReturnHigh, ReturnLow}
+use Rattle.hard_items.specs.Streams.{touched}
+use Rattle.hard_items.specs.Run.{Data, item_act, machine_of, numbered, completed, held}
 use Rattle.signature_assign.specs.Headed.{IsSign, Spares, with_other, Near}
 
 abbrev pub Free : ℕ → Type 0

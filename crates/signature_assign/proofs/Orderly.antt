@@ -2,7 +2,7 @@
 -- a block that may follow.
 use Rattle.std.proofs.Common.{◌≡◌, ◌≢◌, ◌≤◌, ℕ, zero, suc, ◌+◌, ◌<◌, arith, rules, ap, refl, sym, ◌∙◌, subst, List, [], ◌∷◌, ◌++◌, length, drop, false, true, Bool, cond, inl, inr}
 use Rattle.std.specs.Prelude.{Option, Some, None, ◌⊎◌, ◌==◌, slice_get, slice_index, if◌then◌else◌, All, Contains}
-use Rattle.hard_words.specs.Stepping.{Stepper, Always, go}
+use Rattle.hard_runs.specs.Stepping.{Stepper, Always, go}
 use Rattle.std.proofs.lemmas.Option.{slice_get-get_or, slice_get_within, get_or_from_slice_get}
 use Rattle.std.proofs.lemmas.List.Elements.{All-contains}
 use Rattle.mips_isa.specs.declared.instr.Instr.{Instr}
@@ -10,14 +10,14 @@ use Rattle.mips_isa.specs.declared.instr.Instr.TheVariants.{Sll, Srl, Sra, Sllv,
 use Rattle.mips_isa.specs.declared.instr.Act.{Act}
 use Rattle.mips_isa.specs.declared.instr.End.{End}
 use Rattle.mips_isa.specs.Machine.{State, act, perform, is_jump, break_end}
-use Rattle.hard_code.specs.declared.code.Fix.{Fix}
-use Rattle.hard_code.specs.declared.code.Fix.TheVariants.{Plain, Block, Function, ReturnHigh, ReturnLow}
-use Rattle.hard_code.specs.declared.code.Item.{Item}
-use Rattle.hard_code.specs.declared.code.HardProgram.{HardProgram}
-use Rattle.hard_code.specs.Run.{Data, Spot, Way, Onward, Over, To, items, items_of, item_act, machine_of, way_of, branch_way, named, held, tail, arrived, before, at_block, settled, numbered, completed, data_after, first_spot, first_data}
-use Rattle.hard_code.specs.Ways.{Holds, CallsFunction, MayFollow, jumped, branched_eq, branched_ne, fallen_eq, fallen_ne, called, returned}
-use Rattle.hard_code.specs.WellFormed.{WellFormed, ItemAt, SkipsBreak, NamesThere, EndsWell, FieldFits}
-use Rattle.hard_code.specs.Rules.{Lawful, LawfulNext, LawfulAt, Returns}
+use Rattle.hard_items.specs.declared.code.Fix.{Fix}
+use Rattle.hard_items.specs.declared.code.Fix.TheVariants.{Plain, Block, Function, ReturnHigh, ReturnLow}
+use Rattle.hard_items.specs.declared.code.Item.{Item}
+use Rattle.hard_items.specs.declared.code.HardProgram.{HardProgram}
+use Rattle.hard_items.specs.Run.{Data, Spot, Way, Onward, Over, To, items, items_of, item_act, machine_of, way_of, branch_way, named, held, tail, arrived, before, at_block, settled, numbered, completed, data_after, first_spot, first_data}
+use Rattle.hard_items.specs.Ways.{Holds, CallsFunction, MayFollow, jumped, branched_eq, branched_ne, fallen_eq, fallen_ne, called, returned}
+use Rattle.hard_items.specs.WellFormed.{WellFormed, ItemAt, SkipsBreak, NamesThere, EndsWell, FieldFits}
+use Rattle.hard_items.specs.Rules.{Lawful, LawfulNext, LawfulAt, Returns}
 use Rattle.signature_assign.specs.Headed.{Spares, Legal, OrderlyNext, OrderlyAt, BlocksFit}
 use Rattle.signature_assign.proofs.Premises.{follower_there}
 use Rattle.signature_assign.proofs.Step.{at_rest}

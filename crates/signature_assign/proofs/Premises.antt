@@ -4,20 +4,20 @@ use Rattle.std.proofs.lemmas.Grind.{common_steps}
 use Rattle.std.specs.Prelude.{Option, Some, None, ◌⊎◌, slice_get, slice_index, All, Contains}
 use Rattle.std.proofs.lemmas.Option.{slice_get-get_or, slice_get_within, get_or_from_slice_get}
 use Rattle.std.proofs.lemmas.List.Elements.{All-contains}
-use Rattle.hard_code.specs.declared.code.Fix.{Fix}
+use Rattle.hard_items.specs.declared.code.Fix.{Fix}
 use Rattle.mips_isa.specs.declared.instr.Instr.{Instr}
 use Rattle.mips_isa.specs.declared.instr.Instr.TheVariants.{J, Jal, Jr, Beq, Bne}
-use Rattle.mips_isa.specs.Blocks.{carried}
-use Rattle.mips_isa.specs.Blocks as Blocks
-use Rattle.hard_code.specs.declared.code.Fix.TheVariants.{Block, Function}
-use Rattle.hard_code.specs.declared.code.Item.{Item}
-use Rattle.hard_code.specs.declared.code.HardBlock.{HardBlock}
-use Rattle.hard_code.specs.declared.code.HardProgram.{HardProgram}
-use Rattle.hard_code.specs.declared.code.Mark.{Mark}
-use Rattle.hard_code.specs.declared.code.Signed.{Signed}
-use Rattle.hard_code.specs.Run.{items_of, block_items}
-use Rattle.hard_code.specs.Ways.{Holds, CallsFunction, MayFollow, jumped, branched_eq, branched_ne, fallen_eq, fallen_ne, called, returned}
-use Rattle.hard_code.specs.WellFormed.{WellFormed, ItemAt, NamesThere, EndsWell}
+use Rattle.mips_text.specs.Blocks.{carried}
+use Rattle.mips_text.specs.Blocks as Blocks
+use Rattle.hard_items.specs.declared.code.Fix.TheVariants.{Block, Function}
+use Rattle.hard_items.specs.declared.code.Item.{Item}
+use Rattle.hard_items.specs.declared.code.HardBlock.{HardBlock}
+use Rattle.hard_items.specs.declared.code.HardProgram.{HardProgram}
+use Rattle.hard_items.specs.declared.code.Mark.{Mark}
+use Rattle.hard_items.specs.declared.code.Signed.{Signed}
+use Rattle.hard_items.specs.Run.{items_of, block_items}
+use Rattle.hard_items.specs.Ways.{Holds, CallsFunction, MayFollow, jumped, branched_eq, branched_ne, fallen_eq, fallen_ne, called, returned}
+use Rattle.hard_items.specs.WellFormed.{WellFormed, ItemAt, NamesThere, EndsWell}
 use Rattle.sign_law.specs.Graph.{IsSucc}
 use Rattle.sign_law.specs.Signs.{head_at, AreSigned}
 use Rattle.sign_law.proofs.Signs.{edges_pass, entry_passes}

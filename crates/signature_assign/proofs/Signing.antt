@@ -4,11 +4,11 @@ use Rattle.std.specs.Prelude.{Option, Some, None, slice_get, slice_index, slice_
 use Rattle.std.specs.List.{All, Contains}
 use Rattle.std.proofs.lemmas.Bool.{cases_lt, both_ways, false_from_ne_true}
 use Rattle.std.proofs.lemmas.List.{get_or_past, get_or_read, get_or_append_left, get_or_push}
-use Rattle.mips_isa.specs.Blocks.{Head}
-use Rattle.hard_code.specs.declared.code.HardBlock.{HardBlock}
-use Rattle.hard_code.specs.declared.code.HardProgram.{HardProgram}
-use Rattle.hard_code.specs.declared.code.Mark.{Mark}
-use Rattle.hard_code.specs.WellFormed.{WellFormed}
+use Rattle.mips_text.specs.Blocks.{Head}
+use Rattle.hard_items.specs.declared.code.HardBlock.{HardBlock}
+use Rattle.hard_items.specs.declared.code.HardProgram.{HardProgram}
+use Rattle.hard_items.specs.declared.code.Mark.{Mark}
+use Rattle.hard_items.specs.WellFormed.{WellFormed}
 use Rattle.sign_law.specs.Graph.{IsSucc, HasTwo}
 use Rattle.sign_law.specs.Signs.{IsBase, IsReached, joined, led, entered, Leaves, adjusts, rests, IsSigned, AreLabels, AreFirst, AreSigned, head_at}
 use Rattle.sign_law.specs.Search.{label_at}

@@ -1,23 +1,23 @@
 -- One item in both runs: they go on at one item, or both enter one block, or both end alike.
 use Rattle.std.proofs.Common.{◌≡◌, ◌≢◌, ℕ, ◌+◌, ◌<◌, arith, rules, ap, refl, sym, ◌∙◌, subst, List, [], ◌∷◌, length, false, true, Bool, cond, inl, inr}
 use Rattle.std.specs.Prelude.{Option, Some, None, ◌⊎◌, ◌==◌, slice_index, if◌then◌else◌}
-use Rattle.hard_words.specs.Stepping.{Stepper}
+use Rattle.hard_runs.specs.Stepping.{Stepper}
 use Rattle.mips_isa.specs.declared.instr.Instr.{Instr}
 use Rattle.mips_isa.specs.declared.instr.Instr.TheVariants.{J, Jal, Jr, Beq, Bne, Sw}
 use Rattle.mips_isa.specs.declared.instr.Act.{Act}
 use Rattle.mips_isa.specs.declared.instr.Act.TheVariants as act
 use Rattle.mips_isa.specs.declared.instr.End.{End}
 use Rattle.mips_isa.specs.Machine.{State, perform, place, among, reads_of}
-use Rattle.mips_isa.specs.Beside.{SameKept}
-use Rattle.hard_code.specs.declared.code.Fix.{Fix}
-use Rattle.hard_code.specs.declared.code.Fix.TheVariants.{Plain, Block, Function, ReturnHigh, ReturnLow}
-use Rattle.hard_code.specs.declared.code.Item.{Item}
-use Rattle.hard_code.specs.declared.code.HardProgram.{HardProgram}
-use Rattle.hard_code.specs.declared.code.Mark.{Mark}
-use Rattle.hard_code.specs.declared.code.Signed.{Signed}
-use Rattle.hard_code.specs.Run.{Data, Spot, Way, Onward, Over, To, items, item_act, machine_of, way_of, branch_way, named, held, marked, marked_reg, makes_number, value_of, backs_after, stored_after, data_after, arrived, settled, at_block, before}
-use Rattle.hard_code.specs.Ways.{MayFollow}
-use Rattle.hard_code.specs.Heads.{headed}
+use Rattle.mips_faults.specs.Beside.{SameKept}
+use Rattle.hard_items.specs.declared.code.Fix.{Fix}
+use Rattle.hard_items.specs.declared.code.Fix.TheVariants.{Plain, Block, Function, ReturnHigh, ReturnLow}
+use Rattle.hard_items.specs.declared.code.Item.{Item}
+use Rattle.hard_items.specs.declared.code.HardProgram.{HardProgram}
+use Rattle.hard_items.specs.declared.code.Mark.{Mark}
+use Rattle.hard_items.specs.declared.code.Signed.{Signed}
+use Rattle.hard_items.specs.Run.{Data, Spot, Way, Onward, Over, To, items, item_act, machine_of, way_of, branch_way, named, held, marked, marked_reg, makes_number, value_of, backs_after, stored_after, data_after, arrived, settled, at_block, before}
+use Rattle.hard_items.specs.Ways.{MayFollow}
+use Rattle.hard_items.specs.Heads.{headed}
 use Rattle.signature_assign.specs.Headed.{IsSign, Spares, Legal, mark_at, found, HeadsPass, IsClosed, with_other, Near, Level}
 use Rattle.signature_assign.proofs.Near.{Free, free_zero, After, perform_near, item_near, item_clear, spares_read, among_here, or_right}
 

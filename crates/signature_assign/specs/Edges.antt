@@ -3,7 +3,7 @@ use Rattle.std.specs.Prelude.{◌≡◌, ◌<◌, ◌≤◌, ℕ, ◌+◌, Bool,
 use Rattle.std.specs.Prelude.{slice_index, slice_set, get_or, replicate}
 use Rattle.std.specs.List.{list_any}
 use Rattle.sign_law.specs.Graph.{IsSucc, HasTwo}
-use Rattle.hard_code.specs.declared.code.Mark.{Mark}
+use Rattle.hard_items.specs.declared.code.Mark.{Mark}
 use Rattle.sign_law.specs.Signs.{AreLabels, AreFirst, IsSigned}
 use Rattle.sign_law.specs.Marks.{head_of}
 use Rattle.sign_law.specs.Search.{label_at}

@@ -1,23 +1,23 @@
 -- What the heads of a program need of it, and how its run with heads stands beside its run without them.
 use Rattle.std.specs.Prelude.{◌≡◌, ◌≢◌, ◌≤◌, ◌<◌, ◌⊎◌, ℕ, ◌+◌, Bool, true, false, IsTrue, if◌then◌else◌, Option, Some, None, List, [], ◌∷◌, ◌++◌}
 use Rattle.std.specs.Prelude.{length, get_or, slice_get, slice_index, bit_xor}
-use Rattle.hard_words.specs.Stepping.{Always, go}
-use Rattle.hard_words.specs.Observed.{SameObserved}
+use Rattle.hard_runs.specs.Stepping.{Always, go}
+use Rattle.hard_runs.specs.Observed.{SameObserved}
 use Rattle.hard_words.specs.Words.{AreWords}
-use Rattle.hard_code.specs.Rules.{Apart, NeverReports}
+use Rattle.hard_items.specs.Rules.{Apart, NeverReports}
 use Rattle.mips_isa.specs.Machine.{among, perform}
-use Rattle.mips_isa.specs.Beside.{SameKept}
+use Rattle.mips_faults.specs.Beside.{SameKept}
 use Rattle.mips_isa.specs.declared.instr.Instr.TheVariants.{Beq, Bne}
-use Rattle.hard_code.specs.declared.code.Fix.TheVariants.{Block}
-use Rattle.hard_code.specs.declared.code.Class.TheVariants.{Head}
-use Rattle.hard_code.specs.declared.code.Item.{Item}
-use Rattle.hard_code.specs.declared.code.HardProgram.{HardProgram}
-use Rattle.hard_code.specs.declared.code.Mark.{Mark}
-use Rattle.hard_code.specs.declared.code.Signed.{Signed}
-use Rattle.hard_code.specs.Streams.{touched}
-use Rattle.hard_code.specs.Run.{Data, Spot, Way, Onward, Over, To, items, items_of, item_act, machine_of, way_of, held, tail, first_spot, item_run}
-use Rattle.hard_code.specs.Ways.{MayFollow}
-use Rattle.hard_code.specs.Heads.{headed, head_items, signed_run}
+use Rattle.hard_items.specs.declared.code.Fix.TheVariants.{Block}
+use Rattle.hard_items.specs.declared.code.Class.TheVariants.{Head}
+use Rattle.hard_items.specs.declared.code.Item.{Item}
+use Rattle.hard_items.specs.declared.code.HardProgram.{HardProgram}
+use Rattle.hard_items.specs.declared.code.Mark.{Mark}
+use Rattle.hard_items.specs.declared.code.Signed.{Signed}
+use Rattle.hard_items.specs.Streams.{touched}
+use Rattle.hard_items.specs.Run.{Data, Spot, Way, Onward, Over, To, items, items_of, item_act, machine_of, way_of, held, tail, first_spot, item_run}
+use Rattle.hard_items.specs.Ways.{MayFollow}
+use Rattle.hard_items.specs.Heads.{headed, head_items, signed_run}
 use Rattle.sign_law.specs.Marks.{HasSigns}
 
 -- The registers of the signatures.

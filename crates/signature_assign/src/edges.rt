@@ -4,7 +4,7 @@ ghost use Rattle.std.specs.Prelude.{◌≡◌, ◌<◌, ◌≤◌, ℕ, ◌+◌,
 ghost use Rattle.std.specs.List.{All};
 ghost use Rattle.signature_assign.specs.Edges.{AreEdges, added, turned, backward, twos};
 
-use hard_code::HardBlock;
+use hard_items::HardBlock;
 use hard_words::{OutOfMemory, Words};
 use std::alloc::Global;
 

@@ -2,7 +2,7 @@
 
 ghost use Rattle.std.specs.Prelude.{◌≡◌, ◌<◌, ◌≤◌, ℕ, ◌+◌, [], Bool, true, false, Some, None, IfOk, length, get_or, slice_index, slice_index_or, MatchOption};
 ghost use Rattle.std.specs.List.{All, Contains};
-ghost use Rattle.hard_code.specs.WellFormed.{WellFormed};
+ghost use Rattle.hard_items.specs.WellFormed.{WellFormed};
 ghost use Rattle.sign_law.specs.Graph.{IsSucc, HasTwo};
 ghost use Rattle.sign_law.specs.Signs.{IsBase, IsReached, Leaves, IsSigned};
 ghost use Rattle.sign_law.specs.Marks.{head_of, successors_of, HasSigns};
@@ -10,8 +10,8 @@ ghost use Rattle.signature_assign.specs.Edges.{IsKnown, AreMarked, first_before}
 
 use crate::edges::{predecessors, successors, twos};
 use crate::groups::labels;
-use hard_code::{HardBlock, HardProgram, Mark, Sequence, Signed};
-use hard_words::{OutOfMemory, Words};
+use hard_items::{HardBlock, HardProgram, Mark, Signed};
+use hard_words::{OutOfMemory, Sequence, Words};
 use std::alloc::Global;
 
 /// The edges of a program's graph both ways, which blocks have at least two predecessors, and of each of these the first block

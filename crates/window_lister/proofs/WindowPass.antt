@@ -2,8 +2,8 @@
 use Rattle.std.proofs.Common.{◌≡◌, ℕ, ◌+◌, ◌-◌, ◌*◌, ◌/◌, ◌%◌, ◌≤◌, ◌<◌, arith, refl, sym, ◌∙◌, subst, List, [], ◌∷◌, ◌++◌, length, get_or, inl, inr}
 use Rattle.std.specs.Prelude.{◌⊎◌}
 use Rattle.std.proofs.lemmas.Grind.{common_steps}
-use Rattle.mips_isa.specs.Text.{InText, Near}
-use Rattle.window_lister.specs.WindowList.{Before, pair_at, WindowsBefore, AreWindows}
+use Rattle.mips_text.specs.Text.{InText, Near}
+use Rattle.lint_words.specs.WindowList.{Before, pair_at, WindowsBefore, AreWindows}
 
 -- pushed pairs
 push_len : (xs : List (ℕ × ℕ)) (x : ℕ × ℕ) → length (xs ++ x ∷ []) ≡ length xs + 1

@@ -2,8 +2,8 @@
 ghost use Rattle.std.specs.Prelude.{◌≡◌, ◌≤◌, ◌<◌, ◌+◌, ◌%◌, ◌↔◌, IsTrue, OnOk, IfOk};
 ghost use Rattle.std.specs.Int.{bit_at};
 ghost use Rattle.hard_words.specs.Words.{AreWords};
-ghost use Rattle.mips_isa.specs.Text.{IsText};
-ghost use Rattle.window_lister.specs.WindowList.{WindowsBefore, AreWindows};
+ghost use Rattle.mips_text.specs.Text.{IsText};
+ghost use Rattle.lint_words.specs.WindowList.{WindowsBefore, AreWindows};
 
 use hard_words::OutOfMemory;
 use harden_lint::{Typing, window_mask, windows_inside};

@@ -1,11 +1,11 @@
 use Rattle.std.proofs.Common.{◌≡◌, ap, sym, ◌∙◌, subst, List, map}
-use Rattle.hard_code.specs.declared.code.HardBlock.{HardBlock}
-use Rattle.hard_code.specs.declared.code.HardProgram.{HardProgram}
-use Rattle.hard_code.specs.Rules.{Apart, Guarded, NeverReports}
-use Rattle.hard_code.specs.Counts.{Calm, Turned, TurnedThrough}
-use Rattle.block_laws.specs.Runs.{SameRuns}
+use Rattle.hard_items.specs.declared.code.HardBlock.{HardBlock}
+use Rattle.hard_items.specs.declared.code.HardProgram.{HardProgram}
+use Rattle.hard_items.specs.Rules.{Apart, Guarded, NeverReports}
+use Rattle.hard_items.specs.Counts.{Calm, Turned, TurnedThrough}
+use Rattle.hard_items.specs.Runs.{SameRuns}
 use Rattle.block_schedule.specs.Scheduling.{scheduled_block}
-use Rattle.block_laws.specs.Counted.{HasNoFreeNop, AreBusy}
+use Rattle.hard_items.specs.Counted.{HasNoFreeNop, AreBusy}
 use Rattle.block_schedule.specs.Law.{KeepsCounts}
 use Rattle.block_schedule.proofs.Law.{same_runs, apart, never_reports, guarded, calm, counts, turned_, turned_through}
 use Rattle.block_schedule.proofs.pass.interleave.Goals as goal

@@ -1,6 +1,6 @@
 use Rattle.std.proofs.Common.{◌≡◌, ◌++◌, replicate}
-use Rattle.hard_code.specs.Streams.{plain, nop}
-use Rattle.hard_code.specs.declared.code.Class.TheVariants.{Master}
+use Rattle.hard_items.specs.Streams.{plain, nop}
+use Rattle.hard_items.specs.declared.code.Class.TheVariants.{Master}
 use Rattle.block_schedule.proofs.spaces.put_nops.Given as goal
 
 abbrev pub invariant-loop-placed : goal.invariant-loop-placed

@@ -1,6 +1,6 @@
 use Rattle.std.proofs.Common.{◌≡◌, ap, sym, ◌∙◌, append-nil, List, ◌++◌, slice_get}
 use Rattle.std.specs.Prelude.{Option, None}
-use Rattle.hard_code.specs.declared.code.Item.{Item}
+use Rattle.hard_items.specs.declared.code.Item.{Item}
 use Rattle.block_schedule.specs.declared.unit.Whole.{Whole}
 use Rattle.block_schedule.specs.Scheduling as scheduling
 use Rattle.block_schedule.proofs.Turning.{none_there}

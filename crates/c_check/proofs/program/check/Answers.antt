@@ -1,7 +1,7 @@
 use Rattle.std.proofs.Common.{◌≡◌, Ok, rules, sym, ap, ◌∙◌}
 use Rattle.std.specs.BTreeSet.{contains}
 use Rattle.std.specs.Ordering.{nat_cmp}
-use Rattle.c_tree.specs.Meaning.{source_names}
+use Rattle.c_meaning.specs.Meaning.{source_names}
 use Rattle.check_rules.specs.Limits.{checked}
 use Rattle.c_check.proofs.Whole.{as_walked, after_walk, no_fault}
 use Rattle.c_check.proofs.program.check.Goals as goal

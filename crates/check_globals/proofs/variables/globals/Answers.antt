@@ -1,7 +1,7 @@
 use Rattle.std.proofs.Common.{length, refl}
-use Rattle.c_tree.specs.Sizes.{global_nodes}
+use Rattle.c_syntax.specs.Sizes.{global_nodes}
 use Rattle.check_rules.specs.Walk.{walk_global, walk_globals}
-use Rattle.check_walk.proofs.Turns.{next_turn, room_turn}
+use Rattle.check_scopes.proofs.Turns.{next_turn, room_turn}
 use Rattle.check_globals.proofs.variables.globals.Goals as goal
 
 pub loop-g-2-preserved : goal.loop-g-2-preserved

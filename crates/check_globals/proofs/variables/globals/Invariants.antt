@@ -1,8 +1,8 @@
 use Rattle.std.proofs.Common.{◌≡◌, ◌+◌, ◌≤◌, ◌++◌, map, sum, reverse, length}
-use Rattle.c_tree.specs.Sizes.{global_nodes}
+use Rattle.c_syntax.specs.Sizes.{global_nodes}
 use Rattle.check_rules.specs.Fault.{◌>>=◌}
 use Rattle.check_rules.specs.Walk.{walk_globals}
-use Rattle.check_walk.proofs.Turns.{onto_front}
+use Rattle.check_scopes.proofs.Turns.{onto_front}
 use Rattle.check_globals.proofs.variables.globals.Given as goal
 
 abbrev pub invariant-loop-g : goal.invariant-loop-g

@@ -1,8 +1,8 @@
 use Rattle.std.proofs.Common.{◌+◌, map, sum, true, false, length, ap, ◌∙◌, sym, subst}
-use Rattle.c_tree.specs.Sizes.{greatest}
-use Rattle.c_tree.specs.Costs.{function_weight}
-use Rattle.c_tree.specs.Graph.{functions}
-use Rattle.call_graph.specs.Reached.{AreFollowed}
+use Rattle.c_syntax.specs.Sizes.{greatest}
+use Rattle.c_syntax.specs.Costs.{function_weight}
+use Rattle.c_syntax.specs.Graph.{functions}
+use Rattle.c_calls.specs.Reached.{AreFollowed}
 use Rattle.check_limits.specs.Calls.{capped}
 use Rattle.check_limits.specs.Tables.{chosen, chain_over}
 use Rattle.check_limits.proofs.StoreWords.{counter_flat, counter_deep, pairs_flat, pairs_deep}

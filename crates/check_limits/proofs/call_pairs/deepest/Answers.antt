@@ -1,5 +1,5 @@
 use Rattle.std.proofs.Common.{◌+◌, true, arith}
-use Rattle.c_tree.specs.Costs.{function_weight}
+use Rattle.c_syntax.specs.Costs.{function_weight}
 use Rattle.check_limits.proofs.StoreWords.{greatest_more}
 use Rattle.check_limits.proofs.call_pairs.deepest.Goals as goal
 

@@ -1,6 +1,6 @@
 use Rattle.std.proofs.Common.{◌≡◌, ◌+◌, map, take, true}
-use Rattle.c_tree.specs.Sizes.{greatest}
-use Rattle.c_tree.specs.Costs.{function_weight}
+use Rattle.c_syntax.specs.Sizes.{greatest}
+use Rattle.c_syntax.specs.Costs.{function_weight}
 use Rattle.check_limits.specs.Calls.{capped}
 use Rattle.check_limits.specs.Tables.{chosen}
 use Rattle.check_limits.proofs.call_pairs.deepest.Given as goal

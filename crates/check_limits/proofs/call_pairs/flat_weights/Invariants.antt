@@ -1,5 +1,5 @@
 use Rattle.std.proofs.Common.{◌≡◌, map, sum, take, false}
-use Rattle.c_tree.specs.Costs.{function_weight}
+use Rattle.c_syntax.specs.Costs.{function_weight}
 use Rattle.check_limits.specs.Calls.{capped}
 use Rattle.check_limits.specs.Tables.{chosen}
 use Rattle.check_limits.proofs.call_pairs.flat_weights.Given as goal

@@ -1,5 +1,5 @@
 use Rattle.std.proofs.Common.{◌≡◌, length, take}
-use Rattle.c_tree.specs.Graph.{functions}
+use Rattle.c_syntax.specs.Graph.{functions}
 use Rattle.check_limits.proofs.chains.count_functions.Given as goal
 
 abbrev pub invariant-loop-item : goal.invariant-loop-item

@@ -1,5 +1,5 @@
 use Rattle.std.proofs.Common.{◌≡◌, ℕ, ◌+◌, ◌<◌, map, length, get_or, [], true}
-use Rattle.c_tree.specs.Sizes.{greatest}
+use Rattle.c_syntax.specs.Sizes.{greatest}
 use Rattle.check_limits.specs.Calls.{capped}
 use Rattle.check_limits.specs.Tables.{is_wanted}
 use Rattle.check_limits.proofs.chains.further.Given as goal

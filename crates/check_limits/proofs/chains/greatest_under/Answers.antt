@@ -1,6 +1,6 @@
 use Rattle.std.proofs.Common.{get_or, arith}
 use Rattle.std.proofs.lemmas.List.{get_or_default}
-use Rattle.c_tree.proofs.Greatest.{greatest_more}
+use Rattle.c_syntax.proofs.Greatest.{greatest_more}
 use Rattle.check_limits.proofs.chains.greatest_under.Goals as goal
 
 pub loop-name-preserved : goal.loop-name-preserved

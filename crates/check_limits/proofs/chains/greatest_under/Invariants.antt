@@ -1,5 +1,5 @@
 use Rattle.std.proofs.Common.{◌≡◌, map, get_or, take}
-use Rattle.c_tree.specs.Sizes.{greatest}
+use Rattle.c_syntax.specs.Sizes.{greatest}
 use Rattle.check_limits.proofs.chains.greatest_under.Given as goal
 
 abbrev pub invariant-loop-name : goal.invariant-loop-name

@@ -1,7 +1,7 @@
 use Rattle.std.proofs.Common.{sym, ◌∙◌, subst}
 use Rattle.check_rules.specs.Fault.{refuse}
 use Rattle.check_rules.specs.declared.error.CheckKind.TheVariants.{NoBody}
-use Rattle.check_values.specs.Gave.{Gave}
+use Rattle.check_scopes.specs.Gave.{Gave}
 use Rattle.check_limits.proofs.WeightLists.{first_without}
 use Rattle.check_limits.proofs.checks.bodies_are_there.Goals as goal
 

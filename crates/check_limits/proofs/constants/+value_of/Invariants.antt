@@ -1,5 +1,5 @@
 use Rattle.std.proofs.Common.{◌+◌, ◌*◌}
-use Rattle.c_tree.specs.Sizes.{expression_nodes}
+use Rattle.c_syntax.specs.Sizes.{expression_nodes}
 use Rattle.check_limits.proofs.constants.+value_of.Given as goal
 
 abbrev pub decreases-value_of : goal.decreases-value_of

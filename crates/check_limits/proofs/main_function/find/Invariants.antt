@@ -1,5 +1,5 @@
 use Rattle.std.proofs.Common.{◌≡◌, take, None}
-use Rattle.c_tree.specs.Graph.{function_named}
+use Rattle.c_syntax.specs.Graph.{function_named}
 use Rattle.check_limits.proofs.main_function.find.Given as goal
 
 abbrev pub invariant-loop-item : goal.invariant-loop-item

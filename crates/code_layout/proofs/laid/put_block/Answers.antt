@@ -1,7 +1,7 @@
 use Rattle.std.proofs.Common.{◌≡◌, refl, sym, subst, ap, ℕ, List, ◌++◌}
 use Rattle.std.specs.Prelude.{OnOk}
-use Rattle.hard_code.specs.Run.{items_of}
-use Rattle.hard_code.specs.Heads.{headed}
+use Rattle.hard_items.specs.Run.{items_of}
+use Rattle.hard_items.specs.Heads.{headed}
 use Rattle.code_layout.specs.Starts.{AllPut, put_words}
 use Rattle.code_layout.proofs.Written.{block_puts, marked_puts, bare_puts, put_same}
 use Rattle.code_layout.proofs.laid.put_block.Goals as goal

@@ -1,6 +1,6 @@
 use Rattle.std.proofs.Common.{◌≡◌, ◌<◌, sym, ◌∙◌, ap, ℕ, List, ◌++◌, arith, length}
-use Rattle.hard_code.specs.Run.{items_of}
-use Rattle.hard_code.specs.Heads.{headed}
+use Rattle.hard_items.specs.Run.{items_of}
+use Rattle.hard_items.specs.Heads.{headed}
 use Rattle.layout_law.specs.Layout.{address, items_words}
 use Rattle.code_layout.proofs.Written.{grows_at, all_blocks}
 use Rattle.code_layout.proofs.laid.put_blocks.Goals as goal

@@ -1,5 +1,5 @@
 use Rattle.std.proofs.Common.{◌≡◌, take}
-use Rattle.hard_code.specs.Heads.{headed}
+use Rattle.hard_items.specs.Heads.{headed}
 use Rattle.layout_law.specs.Layout.{blocks_words}
 use Rattle.code_layout.proofs.laid.put_blocks.Given as goal
 

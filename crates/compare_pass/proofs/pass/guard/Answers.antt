@@ -1,9 +1,9 @@
 use Rattle.std.proofs.Common.{◌≡◌, ap, sym, ◌∙◌, subst, List, map}
-use Rattle.hard_code.specs.declared.code.HardBlock.{HardBlock}
-use Rattle.hard_code.specs.declared.code.HardProgram.{HardProgram}
-use Rattle.hard_code.specs.Rules.{Twin, Guarded}
+use Rattle.hard_items.specs.declared.code.HardBlock.{HardBlock}
+use Rattle.hard_items.specs.declared.code.HardProgram.{HardProgram}
+use Rattle.hard_items.specs.Rules.{Twin, Guarded}
 use Rattle.compare_pass.specs.Guarding.{checked_block}
-use Rattle.block_laws.specs.Runs.{SameRuns}
+use Rattle.hard_items.specs.Runs.{SameRuns}
 use Rattle.compare_pass.specs.Law.{SameCounts}
 use Rattle.compare_pass.proofs.Law.{guarded, twin, same_runs, counts}
 use Rattle.compare_pass.proofs.pass.guard.Goals as goal

@@ -2,7 +2,7 @@ use Rattle.std.proofs.Common.{refl, List, length, sym, subst, arith}
 use Rattle.std.specs.Prelude.{Ok}
 use Rattle.c_lexer.specs.declared.token.Token.{Token}
 use Rattle.c_lexer.specs.Tokens.{Tokens, ArePlaced}
-use Rattle.compile_chain.specs.Parts.{lexer_refusal}
+use Rattle.compile_rules.specs.Refusals.{lexer_refusal}
 use Rattle.compile_chain.proofs.Sources.{checked_of, in_order, placed_length, tokens_refused, lex_refused, only_memory}
 use Rattle.compile_chain.proofs.Results.{if_ok, if_err, unless}
 use Rattle.compile_chain.proofs.compiler.checked_source.Goals as goal

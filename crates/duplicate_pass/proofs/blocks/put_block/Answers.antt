@@ -1,5 +1,5 @@
 use Rattle.std.proofs.Common.{ap, ◌∙◌, ◌++◌, [], ◌∷◌}
-use Rattle.hard_code.specs.declared.code.HardBlock.{HardBlock}
+use Rattle.hard_items.specs.declared.code.HardBlock.{HardBlock}
 use Rattle.duplicate_pass.proofs.Parts.{block_put}
 use Rattle.duplicate_pass.proofs.blocks.put_block.Goals as goal
 

@@ -1,7 +1,7 @@
 use Rattle.std.proofs.Common.{◌≡◌}
-use Rattle.hard_code.specs.Rules.{Twin}
+use Rattle.hard_items.specs.Rules.{Twin}
 use Rattle.double_law.specs.Law.{RunsAsBlocks}
-use Rattle.double_forms.specs.Laws.{CountsFit}
+use Rattle.double_law.specs.Laws.{CountsFit}
 use Rattle.duplicate_pass.specs.Doubled.{doubled_program}
 use Rattle.duplicate_pass.proofs.Emitted.{for_ok}
 use Rattle.duplicate_pass.proofs.Doubled.{all_given}

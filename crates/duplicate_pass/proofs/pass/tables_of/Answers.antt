@@ -1,6 +1,6 @@
 use Rattle.std.proofs.Common.{◌+◌, ◌<◌, ◌^◌, List, sym, subst, map, sum, length}
 use Rattle.std.specs.Prelude.{All}
-use Rattle.mid_code.specs.declared.code.MidFunction.{MidFunction}
+use Rattle.mid_blocks.specs.declared.code.MidFunction.{MidFunction}
 use Rattle.duplicate_pass.specs.Emits.{CallsBelow}
 use Rattle.duplicate_pass.proofs.Facts.{all_calls, all_few, tables_are}
 use Rattle.duplicate_pass.proofs.pass.tables_of.Goals as goal

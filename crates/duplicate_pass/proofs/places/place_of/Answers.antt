@@ -1,6 +1,6 @@
 use Rattle.std.proofs.Common.{ap, sym, ◌∙◌}
 use Rattle.std.specs.Option.{option_copied}
-use Rattle.mid_code.specs.declared.places.Place.TheVariants.{Slot}
+use Rattle.mid_blocks.specs.declared.places.Place.TheVariants.{Slot}
 use Rattle.duplicate_pass.proofs.Absent.{absent}
 use Rattle.duplicate_pass.proofs.places.place_of.Goals as goal
 

@@ -1,7 +1,7 @@
 use Rattle.std.proofs.Common.{◌≡◌, ◌+◌, ◌<◌, ◌^◌, ℕ, [], length, ◌++◌, drop}
 use Rattle.std.specs.Prelude.{All, vec_len, slice_index_or}
 use Rattle.duplicate_pass.specs.Emits.{CallsBelow}
-use Rattle.double_forms.specs.Ways.{behind_calls}
+use Rattle.double_law.specs.Ways.{behind_calls}
 use Rattle.duplicate_pass.proofs.tables.note_calls.Given as goal
 
 abbrev pub invariant-loop-block : goal.invariant-loop-block

@@ -1,7 +1,7 @@
 use Rattle.std.proofs.Common.{◌≡◌, ◌+◌, ◌<◌, ◌^◌, ℕ, [], ◌∷◌, length, map, sum, ◌++◌, drop}
 use Rattle.std.specs.Prelude.{All, vec_len, slice_index_or, if◌then◌else◌, ◌==◌}
 use Rattle.duplicate_pass.specs.Emits.{CallsBelow}
-use Rattle.double_forms.specs.Ways.{behind_calls, all_blocks}
+use Rattle.double_law.specs.Ways.{behind_calls, all_blocks}
 use Rattle.duplicate_pass.proofs.tables.return_lists.Given as goal
 
 abbrev pub invariant-loop-function : goal.invariant-loop-function

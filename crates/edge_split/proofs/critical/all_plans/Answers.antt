@@ -1,6 +1,6 @@
 use Rattle.std.proofs.Common.{◌≡◌, ◌∙◌, sym, ap, subst, length, ◌+◌, ◌<◌, List, map, replicate, false}
 use Rattle.std.specs.Prelude.{All, IfOk}
-use Rattle.hard_code.specs.declared.code.HardBlock.{HardBlock}
+use Rattle.hard_items.specs.declared.code.HardBlock.{HardBlock}
 use Rattle.edge_split.specs.Split.{Plan}
 use Rattle.edge_split.specs.Built.{plan_as, all_counted, all_marked, all_planned, plan_list}
 use Rattle.edge_split.proofs.Built.{successors_there}

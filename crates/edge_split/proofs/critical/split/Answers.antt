@@ -1,7 +1,7 @@
 use Rattle.std.proofs.Common.{◌≡◌, ◌∙◌, ap, sym, subst, refl, ℕ, ◌+◌, ◌<◌, List, length, map, get_or}
 use Rattle.std.specs.Prelude.{All, slice_index}
-use Rattle.hard_code.specs.declared.code.HardBlock.{HardBlock}
-use Rattle.hard_code.specs.declared.code.HardProgram.{HardProgram}
+use Rattle.hard_items.specs.declared.code.HardBlock.{HardBlock}
+use Rattle.hard_items.specs.declared.code.HardProgram.{HardProgram}
 use Rattle.edge_split.specs.declared.plan.Plan.TheVariants as made
 use Rattle.edge_split.specs.Split.{split_blocks, split_place, smoothed}
 use Rattle.edge_split.specs.Built.{plan_as, AllThere, places_by}

@@ -1,5 +1,5 @@
 use Rattle.std.proofs.Common.{◌≡◌, drop}
-use Rattle.code_layout.specs.Widen.{first_goal}
+use Rattle.far_branches.specs.Widen.{first_goal}
 use Rattle.edge_split.proofs.plan.first_branch_goal.Given as goal
 
 abbrev pub invariant-loop-item : goal.invariant-loop-item

@@ -1,5 +1,5 @@
 use Rattle.std.proofs.Common.{◌≡◌, take, map}
-use Rattle.c_tree.specs.Meaning.{constant}
+use Rattle.c_meaning.specs.Meaning.{constant}
 use Rattle.eval_state.proofs.files.constants.Given as goal
 
 abbrev pub invariant-loop-e : goal.invariant-loop-e

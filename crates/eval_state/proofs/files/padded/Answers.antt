@@ -1,6 +1,6 @@
 use Rattle.std.proofs.Common.{◌≡◌, ◌≤◌, ◌<◌, ℕ, ◌∙◌, sym, ap, arith, length}
 use Rattle.std.proofs.lemmas.List.{length-take, length_push}
-use Rattle.c_tree.specs.Meaning.{padded}
+use Rattle.c_meaning.specs.Meaning.{padded}
 use Rattle.eval_state.proofs.Padding.{padded_take, padded_push, padded_all}
 use Rattle.eval_state.proofs.files.padded.Goals as goal
 

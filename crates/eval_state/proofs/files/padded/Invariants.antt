@@ -1,5 +1,5 @@
 use Rattle.std.proofs.Common.{◌≡◌, ◌≤◌, ◌-◌, length}
-use Rattle.c_tree.specs.Meaning.{padded}
+use Rattle.c_meaning.specs.Meaning.{padded}
 use Rattle.eval_state.proofs.files.padded.Given as goal
 
 abbrev pub invariant-loop-words : goal.invariant-loop-words

@@ -1,6 +1,6 @@
 use Rattle.std.proofs.Common.{◌≡◌, ◌++◌, ◌∷◌, [], List, drop}
-use Rattle.c_tree.specs.Run.{Entry}
-use Rattle.c_tree.specs.Meaning.{bound}
+use Rattle.c_meaning.specs.Run.{Entry}
+use Rattle.c_meaning.specs.Meaning.{bound}
 use Rattle.eval_state.proofs.params.params_in.Given as goal
 
 abbrev pub invariant-loop-i : goal.invariant-loop-i

@@ -1,8 +1,8 @@
 use Rattle.std.proofs.Common.{◌+◌, ◌<◌, ◌≤◌, sym, subst, arith}
-use Rattle.c_tree.specs.Graph.{functions}
+use Rattle.c_syntax.specs.Graph.{functions}
 use Rattle.eval_parts.specs.declared.part.Next.{Next}
 use Rattle.eval_parts.specs.Work.{next_work, bodies_work, function_work}
-use Rattle.eval_steps.proofs.Lessening.{some_bodies_of, body_of_all}
+use Rattle.eval_parts.proofs.Lessening.{some_bodies_of, body_of_all}
 use Rattle.eval_steps.proofs.calls.called.Goals as goal
 
 pub returns-in-None-clause-falls : goal.returns-in-None-clause-falls

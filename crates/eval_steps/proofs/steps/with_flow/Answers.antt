@@ -1,7 +1,7 @@
 use Rattle.std.proofs.Common.{map}
 use Rattle.eval_parts.specs.declared.part.Now.TheVariants as now
 use Rattle.eval_parts.specs.Work.{statement_work, local_work, clause_work}
-use Rattle.eval_steps.proofs.Lessening.{some_work, some_clauses_work, falls_then}
+use Rattle.eval_parts.proofs.Lessening.{some_work, some_clauses_work, falls_then}
 use Rattle.eval_steps.proofs.steps.with_flow.Goals as goal
 
 pub returns-in-Stmts-clause-falls : goal.returns-in-Stmts-clause-falls

@@ -1,7 +1,7 @@
 use Rattle.std.specs.Prelude.{IsTrue}
-use Rattle.hardcc_core.specs.Commands.{self_image}
-use Rattle.hardcc_core.specs.Summaries.{summary_lines}
-use Rattle.hardcc_core.proofs.Calls.{put_told}
+use Rattle.tool_words.specs.Commands.{self_image}
+use Rattle.tool_outcomes.specs.Summaries.{summary_lines}
+use Rattle.tool_outcomes.proofs.Calls.{put_told}
 use Rattle.hardcc_core.proofs.self_file.put_and_tell.Goals as goal
 
 pub returns-in-Ok : goal.returns-in-Ok

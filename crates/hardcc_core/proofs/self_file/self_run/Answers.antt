@@ -4,11 +4,11 @@ use Rattle.elf_image.specs.Held.{IsImage}
 use Rattle.mips_isa.specs.Image.{boot_state}
 use Rattle.mips_isa.specs.Runs.{Ran, run}
 use Rattle.program_maker.specs.Text.{made_text}
-use Rattle.hardcc_core.specs.Commands.{SelfRun, self_image}
-use Rattle.hardcc_core.specs.Files.{Held}
-use Rattle.hardcc_core.specs.Summaries.{summary, summary_lines}
-use Rattle.hardcc_core.proofs.Calls.{refused_call, put_call}
-use Rattle.hardcc_core.proofs.Reading.{made_reads}
+use Rattle.tool_words.specs.Commands.{SelfRun, self_image}
+use Rattle.tool_outcomes.specs.Files.{Held}
+use Rattle.tool_outcomes.specs.Summaries.{summary, summary_lines}
+use Rattle.tool_outcomes.proofs.Calls.{refused_call, put_call}
+use Rattle.tool_outcomes.proofs.Reading.{made_reads}
 use Rattle.hardcc_core.proofs.self_file.self_run.Goals as goal
 
 pub returns-in-Err : goal.returns-in-Err
@@ -29,7 +29,7 @@ returns-in-Ok g c =
     put_call (IsTrue (g.H.Shelf.tells c.args.shelf.now)) old new _ _ (g.O.Sink.written c.args.out.now) (g.O.Sink.written c.put_and_tell.new.out) _ (SelfRun w.number w.size w.steps) self_image c.deref.result.now _ c.put_and_tell.result
     (λ t. (((made_text w.number w.size, refl, is.accepted), tt), tt))
     (λ t. tt)
-    (λ t put. (c.deref.result.now, put, record { fields = is.fields; file = subst (λ (to : List ℕ). IsImage to is.fields) (sym c.deref.ensures.value) is.image; compiles = is.compiles }))
+    (λ t put. (c.deref.result.now, put, (record { fields = is.fields; file = subst (λ (to : List ℕ). IsImage to is.fields) (sym c.deref.ensures.value) is.image; compiles = is.compiles }, c.deref.ensures.value ∙ is.written)))
     refl
     (λ t put. (c.deref.result.now, put, (is.fields, subst (λ (to : List ℕ). IsImage to is.fields) (sym c.deref.ensures.value) is.image, same)))
     c.put_and_tell.ensures

@@ -2,9 +2,9 @@ use Rattle.std.proofs.Common.{◌++◌, ◌∙◌, refl}
 use Rattle.std.specs.Prelude.{codes}
 use Rattle.fault_replay.specs.Show.{end_line}
 use Rattle.hardcc_core.specs.declared.self_file.Summary.{Summary}
-use Rattle.hardcc_core.specs.Tallies.{outcome_line}
-use Rattle.hardcc_core.proofs.Reading.{rises}
-use Rattle.hardcc_core.proofs.Writing.{writes_front, writes_behind, line_last}
+use Rattle.fault_campaign.specs.Tallies.{outcome_line}
+use Rattle.tool_outcomes.proofs.Reading.{rises}
+use Rattle.tool_outcomes.proofs.Writing.{writes_front, writes_behind, line_last}
 use Rattle.hardcc_core.proofs.self_file.write_counted.Goals as goal
 
 pub returns-in-Err-clause-writes : goal.returns-in-Err-clause-writes

@@ -1,7 +1,7 @@
 use Rattle.std.proofs.Common.{ℕ, ◌≡◌, ◌+◌, ◌*◌, length, sym, ◌∙◌, ap, subst, List, Bool}
 use Rattle.std.specs.Prelude.{Option}
-use Rattle.mips_isa.specs.Text.{IsText}
-use Rattle.mips_isa.specs.Blocks.{IsStart}
+use Rattle.mips_text.specs.Text.{IsText}
+use Rattle.mips_text.specs.Blocks.{IsStart}
 use Rattle.lint_words.specs.Around.{in_slot}
 use Rattle.harden_lint.specs.StartTable.{Table}
 use Rattle.harden_lint.specs.Outcome.{Scanned, Decided, end_of, outcome}

@@ -1,6 +1,6 @@
 use Rattle.std.proofs.Common.{ℕ, ◌≡◌, refl, length, sym, subst, rules, List, Bool}
 use Rattle.std.specs.Prelude.{Option, Some, None}
-use Rattle.mips_isa.specs.Blocks.{IsStart}
+use Rattle.mips_text.specs.Blocks.{IsStart}
 use Rattle.harden_lint.specs.declared.TypingRow.{TypingRow}
 use Rattle.harden_lint.specs.Rules.{BadAt, WellTyped}
 use Rattle.harden_lint.specs.Rows.{Typed}

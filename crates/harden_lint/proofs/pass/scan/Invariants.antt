@@ -1,6 +1,6 @@
 use Rattle.std.proofs.Common.{ℕ}
 use Rattle.std.specs.Prelude.{Option}
-use Rattle.mips_isa.specs.Blocks.{IsStart}
+use Rattle.mips_text.specs.Blocks.{IsStart}
 use Rattle.harden_lint.specs.StartTable.{Table}
 use Rattle.harden_lint.specs.Outcome.{CleanTo}
 use Rattle.harden_lint.proofs.pass.scan.Given as goal

@@ -1,5 +1,5 @@
 use Rattle.std.proofs.Common.{sym, ◌∙◌}
-use Rattle.harden_lint.specs.Typing.{master, shadow}
+use Rattle.mips_text.specs.Typing.{master, shadow}
 use Rattle.harden_lint.specs.StreamTests.{products}
 use Rattle.harden_lint.proofs.MaskBits.{first_stream, second_stream, no_stream}
 use Rattle.harden_lint.proofs.table.producer_by.Goals as goal

@@ -1,8 +1,8 @@
 use Rattle.std.proofs.Common.{◌+◌, ◌≤◌, length, map, arith, ap, ◌∙◌}
 use Rattle.std.proofs.lemmas.List.{length-map}
-use Rattle.c_tree.specs.Costs.{function_weight}
-use Rattle.lowering_law.specs.Programs.{free_of, variables_of}
-use Rattle.lower_emit.specs.Names.{names_of, variable_of}
+use Rattle.c_syntax.specs.Costs.{function_weight}
+use Rattle.lower_rules.specs.Programs.{free_of, variables_of}
+use Rattle.lower_expressions.specs.Names.{names_of, variable_of}
 use Rattle.lower_functions.specs.Lowered.{low_with}
 use Rattle.lower_functions.proofs.Numbered.{has_numbers, weight_most}
 use Rattle.lower_functions.proofs.Named.{names_in}

@@ -1,6 +1,6 @@
 use Rattle.std.proofs.Common.{◌≡◌, take}
 use Rattle.std.specs.List.{list_any}
-use Rattle.lowering_law.specs.Programs.{with_bodies}
+use Rattle.c_syntax.specs.Graph.{with_bodies}
 use Rattle.lower_functions.specs.Lowered.{is_marked}
 use Rattle.lower_functions.proofs.whole.any_marked.Given as goal
 

@@ -1,7 +1,7 @@
 use Rattle.std.proofs.Common.{◌≡◌, length, map, arith, refl, ap, ◌∙◌}
-use Rattle.lowering_law.specs.Programs.{shapes}
-use Rattle.lower_emit.specs.Names.{shape_of}
-use Rattle.lower_tables.specs.Calls.{meant}
+use Rattle.lower_rules.specs.Programs.{shapes}
+use Rattle.lower_expressions.specs.Names.{shape_of}
+use Rattle.lower_names.specs.Calls.{meant}
 use Rattle.lower_functions.proofs.Listed.{order_few, globals_few}
 use Rattle.lower_functions.proofs.Agrees.{program_same}
 use Rattle.lower_functions.proofs.whole.program.Goals as goal

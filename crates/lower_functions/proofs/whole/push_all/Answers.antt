@@ -1,5 +1,5 @@
 use Rattle.std.proofs.Common.{arith}
-use Rattle.c_tree.specs.Sizes.{item_nodes}
+use Rattle.c_syntax.specs.Sizes.{item_nodes}
 use Rattle.lower_functions.proofs.Listed.{one_of_sum, none_bare}
 use Rattle.lower_functions.proofs.whole.push_all.Goals as goal
 

@@ -1,6 +1,6 @@
 use Rattle.std.proofs.Common.{◌≡◌, ◌++◌, map, take}
-use Rattle.lower_tables.specs.Stands.{KnownOutside}
-use Rattle.lower_tables.specs.Calls.{chosen}
+use Rattle.lower_names.specs.Stands.{KnownOutside}
+use Rattle.lower_names.specs.Calls.{chosen}
 use Rattle.lower_functions.specs.Lowered.{low_among}
 use Rattle.lower_functions.proofs.whole.push_all.Given as goal
 

@@ -1,7 +1,7 @@
 use Rattle.std.proofs.Common.{◌+◌, ◌*◌, ◌<◌, map, sum, arith}
-use Rattle.c_tree.specs.Sizes.{statement_nodes, clause_nodes}
-use Rattle.lowering_law.specs.Statements.{low_statement, low_clause}
-use Rattle.lower_emit.specs.Names.{names_of}
+use Rattle.c_syntax.specs.Sizes.{statement_nodes, clause_nodes}
+use Rattle.lower_rules.specs.Statements.{low_statement, low_clause}
+use Rattle.lower_expressions.specs.Names.{names_of}
 use Rattle.lower_statements.proofs.Lists.{item_most, next_blocks, next_clause_blocks, clause_blocks, clause_most}
 use Rattle.lower_statements.proofs.counts.+counts.Goals as goal
 

@@ -1,6 +1,6 @@
 use Rattle.std.proofs.Common.{◌≡◌, ◌+◌, map, drop}
-use Rattle.lowering_law.specs.Statements.{low_local, list_blocks}
-use Rattle.lower_emit.specs.Names.{names_of}
+use Rattle.lower_rules.specs.Statements.{low_local, list_blocks}
+use Rattle.lower_expressions.specs.Names.{names_of}
 use Rattle.lower_statements.proofs.counts.local_blocks.Given as goal
 
 abbrev pub invariant-loop-d : goal.invariant-loop-d

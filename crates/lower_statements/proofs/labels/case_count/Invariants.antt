@@ -1,6 +1,6 @@
 use Rattle.std.proofs.Common.{◌≡◌, ◌+◌, map, drop}
-use Rattle.c_tree.specs.Meaning.{label_word}
-use Rattle.lowering_law.specs.Statements.{case_count}
+use Rattle.c_meaning.specs.Meaning.{label_word}
+use Rattle.lower_rules.specs.Statements.{case_count}
 use Rattle.lower_statements.proofs.labels.case_count.Given as goal
 
 abbrev pub invariant-loop-label : goal.invariant-loop-label

@@ -1,6 +1,6 @@
 use Rattle.std.proofs.Common.{◌≡◌, ◌+◌, map, drop, None}
-use Rattle.lowering_law.specs.Statements.{low_clause, block_of, clauses_blocks}
-use Rattle.lower_emit.specs.Names.{names_of}
+use Rattle.lower_rules.specs.Statements.{low_clause, block_of, clauses_blocks}
+use Rattle.lower_expressions.specs.Names.{names_of}
 use Rattle.lower_statements.proofs.labels.default_block.Given as goal
 
 abbrev pub invariant-loop-clause : goal.invariant-loop-clause

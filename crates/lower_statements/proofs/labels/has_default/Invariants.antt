@@ -1,6 +1,6 @@
 use Rattle.std.proofs.Common.{◌≡◌, map, drop, None}
 use Rattle.std.specs.List.{list_any}
-use Rattle.c_tree.specs.Meaning.{label_word, is_label}
+use Rattle.c_meaning.specs.Meaning.{label_word, is_label}
 use Rattle.lower_statements.proofs.labels.has_default.Given as goal
 
 abbrev pub invariant-loop-label : goal.invariant-loop-label

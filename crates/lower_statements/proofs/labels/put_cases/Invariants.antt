@@ -1,7 +1,7 @@
 use Rattle.std.proofs.Common.{◌≡◌, ◌+◌, ◌++◌, map, drop}
-use Rattle.lowering_law.specs.Statements.{low_clause, cases_lines, clauses_blocks}
-use Rattle.lower_emit.specs.Names.{names_of}
-use Rattle.lower_emit.specs.Written.{written}
+use Rattle.lower_rules.specs.Statements.{low_clause, cases_lines, clauses_blocks}
+use Rattle.lower_expressions.specs.Names.{names_of}
+use Rattle.lower_expressions.specs.Written.{written}
 use Rattle.lower_statements.proofs.labels.put_cases.Given as goal
 
 abbrev pub invariant-loop-clause : goal.invariant-loop-clause

@@ -1,7 +1,7 @@
 use Rattle.std.proofs.Common.{◌≡◌, ◌++◌, map, drop}
-use Rattle.c_tree.specs.Meaning.{label_word}
-use Rattle.lowering_law.specs.Statements.{case_lines}
-use Rattle.lower_emit.specs.Written.{written}
+use Rattle.c_meaning.specs.Meaning.{label_word}
+use Rattle.lower_rules.specs.Statements.{case_lines}
+use Rattle.lower_expressions.specs.Written.{written}
 use Rattle.lower_statements.proofs.labels.put_labels.Given as goal
 
 abbrev pub invariant-loop-label : goal.invariant-loop-label

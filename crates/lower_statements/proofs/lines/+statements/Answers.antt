@@ -1,9 +1,9 @@
 use Rattle.std.proofs.Common.{◌+◌, ◌*◌, ◌<◌, ◌++◌, ◌∙◌, map, sum, sym, ap, List, arith}
-use Rattle.c_tree.specs.Sizes.{statement_nodes, clause_nodes}
-use Rattle.mid_code.specs.Lines.{Line}
-use Rattle.lowering_law.specs.Statements.{low_statement, low_clause}
-use Rattle.lower_emit.specs.Names.{names_of}
-use Rattle.lower_emit.specs.Written.{written}
+use Rattle.c_syntax.specs.Sizes.{statement_nodes, clause_nodes}
+use Rattle.mid_blocks.specs.Lines.{Line}
+use Rattle.lower_rules.specs.Statements.{low_statement, low_clause}
+use Rattle.lower_expressions.specs.Names.{names_of}
+use Rattle.lower_expressions.specs.Written.{written}
 use Rattle.lower_statements.specs.Contexts.{context_of}
 use Rattle.lower_statements.proofs.Lists.{item_most, next_blocks, next_lines, next_clause_blocks, next_clause_lines, clause_blocks, clause_lines, clause_most}
 use Rattle.lower_statements.proofs.lines.+statements.Goals as goal

@@ -1,8 +1,8 @@
 use Rattle.std.proofs.Common.{◌≡◌, ◌+◌, ◌*◌, ◌++◌, map, sum, drop}
-use Rattle.c_tree.specs.Sizes.{statement_nodes, clause_nodes}
-use Rattle.lowering_law.specs.Statements.{low_statement, low_clause, list_blocks, list_lines, clauses_blocks, clauses_lines}
-use Rattle.lower_emit.specs.Names.{names_of}
-use Rattle.lower_emit.specs.Written.{written}
+use Rattle.c_syntax.specs.Sizes.{statement_nodes, clause_nodes}
+use Rattle.lower_rules.specs.Statements.{low_statement, low_clause, list_blocks, list_lines, clauses_blocks, clauses_lines}
+use Rattle.lower_expressions.specs.Names.{names_of}
+use Rattle.lower_expressions.specs.Written.{written}
 use Rattle.lower_statements.specs.Contexts.{context_of}
 use Rattle.lower_statements.proofs.lines.+statements.Given as goal
 

@@ -1,5 +1,5 @@
 use Rattle.std.proofs.Common.{arith}
-use Rattle.c_tree.specs.Sizes.{local_nodes}
+use Rattle.c_syntax.specs.Sizes.{local_nodes}
 use Rattle.lower_statements.proofs.Lists.{item_most}
 use Rattle.lower_statements.proofs.steps.put_locals.Goals as goal
 

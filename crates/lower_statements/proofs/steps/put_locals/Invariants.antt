@@ -1,7 +1,7 @@
 use Rattle.std.proofs.Common.{◌≡◌, ◌+◌, ◌++◌, map, drop}
-use Rattle.lowering_law.specs.Statements.{low_local, list_blocks, list_lines}
-use Rattle.lower_emit.specs.Names.{names_of}
-use Rattle.lower_emit.specs.Written.{written}
+use Rattle.lower_rules.specs.Statements.{low_local, list_blocks, list_lines}
+use Rattle.lower_expressions.specs.Names.{names_of}
+use Rattle.lower_expressions.specs.Written.{written}
 use Rattle.lower_statements.specs.Contexts.{context_of}
 use Rattle.lower_statements.proofs.steps.put_locals.Given as goal
 

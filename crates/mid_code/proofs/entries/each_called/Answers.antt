@@ -1,5 +1,5 @@
 use Rattle.std.proofs.Common.{length, rules}
-use Rattle.mid_code.specs.Tested.{may_stay}
+use Rattle.mid_blocks.specs.Tested.{may_stay}
 use Rattle.mid_code.proofs.Windows.{window_more}
 use Rattle.mid_code.proofs.entries.each_called.Goals as goal
 

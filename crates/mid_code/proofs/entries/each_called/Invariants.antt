@@ -1,5 +1,5 @@
 use Rattle.std.proofs.Common.{◌≡◌, ℕ, ◌<◌, ◌-◌, true, length}
-use Rattle.mid_code.specs.Tested.{may_stay}
+use Rattle.mid_blocks.specs.Tested.{may_stay}
 use Rattle.mid_code.proofs.entries.each_called.Given as goal
 
 abbrev pub decreases-loop-low : goal.decreases-loop-low

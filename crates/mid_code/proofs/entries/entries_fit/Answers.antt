@@ -1,5 +1,5 @@
 use Rattle.std.proofs.Common.{length, rules}
-use Rattle.mid_code.specs.Tested.{is_entered}
+use Rattle.mid_blocks.specs.Tested.{is_entered}
 use Rattle.mid_code.proofs.Windows.{window_more}
 use Rattle.mid_code.proofs.entries.entries_fit.Goals as goal
 

@@ -1,5 +1,5 @@
 use Rattle.std.proofs.Common.{◌≡◌, ℕ, ◌<◌, ◌-◌, true, length}
-use Rattle.mid_code.specs.Tested.{is_entered}
+use Rattle.mid_blocks.specs.Tested.{is_entered}
 use Rattle.mid_code.proofs.entries.entries_fit.Given as goal
 
 abbrev pub decreases-loop-low : goal.decreases-loop-low

@@ -1,5 +1,5 @@
 use Rattle.std.proofs.Common.{length}
-use Rattle.mid_code.specs.Tested.{is_entered, HoldsWithin}
+use Rattle.mid_blocks.specs.Tested.{is_entered, HoldsWithin}
 use Rattle.mid_code.proofs.entries.window_fits.Given as goal
 
 abbrev pub invariant-loop-at : goal.invariant-loop-at

@@ -1,6 +1,6 @@
 use Rattle.std.proofs.Common.{take}
 use Rattle.std.specs.List.{list_any}
-use Rattle.mid_code.specs.Tested.{calls, AreRaised}
+use Rattle.mid_blocks.specs.Tested.{calls, AreRaised}
 use Rattle.mid_code.proofs.marks.raise_called.Given as goal
 
 abbrev pub invariant-loop-function : goal.invariant-loop-function

@@ -1,6 +1,6 @@
 use Rattle.std.proofs.Common.{take}
 use Rattle.std.specs.List.{list_any}
-use Rattle.mid_code.specs.Tested.{is_it, callee, AreRaised}
+use Rattle.mid_blocks.specs.Tested.{is_it, callee, AreRaised}
 use Rattle.mid_code.proofs.marks.raise_calls.Given as goal
 
 abbrev pub invariant-loop-block : goal.invariant-loop-block

@@ -1,7 +1,7 @@
 use Rattle.std.proofs.Common.{take}
 use Rattle.std.specs.List.{list_any}
-use Rattle.mid_code.specs.Tested.{is_it, AreRaised}
-use Rattle.mid_code.specs.Valid.{target}
+use Rattle.mid_blocks.specs.Tested.{is_it, AreRaised}
+use Rattle.mid_blocks.specs.Valid.{target}
 use Rattle.mid_code.proofs.marks.raise_named.Given as goal
 
 abbrev pub invariant-loop-block : goal.invariant-loop-block

@@ -1,5 +1,5 @@
 use Rattle.std.proofs.Common.{rules, arith, refl}
-use Rattle.mid_code.specs.Valid.{ValidFunction}
+use Rattle.mid_blocks.specs.Valid.{ValidFunction}
 use Rattle.mid_code.proofs.Counting.{within_more, all_within}
 use Rattle.mid_code.proofs.programs.each_valid.Goals as goal
 

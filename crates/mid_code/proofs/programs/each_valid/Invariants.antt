@@ -1,5 +1,5 @@
 use Rattle.std.specs.List.{AllWithin}
-use Rattle.mid_code.specs.Valid.{ValidFunction}
+use Rattle.mid_blocks.specs.Valid.{ValidFunction}
 use Rattle.mid_code.proofs.programs.each_valid.Given as goal
 
 abbrev pub invariant-loop-function : goal.invariant-loop-function

@@ -1,7 +1,7 @@
 use Rattle.std.proofs.Common.{◌+◌, ◌<◌, ◌∙◌, arith, length, sym, subst, List}
 use Rattle.std.specs.List.{flat_map}
-use Rattle.mid_code.specs.declared.code.MidBlock.{MidBlock}
-use Rattle.mid_code.specs.Lines.{lines, block_lines}
+use Rattle.mid_blocks.specs.declared.code.MidBlock.{MidBlock}
+use Rattle.mid_blocks.specs.Lines.{lines, block_lines}
 use Rattle.mid_code.proofs.Counting.{sum_past_0, few_is_none}
 use Rattle.mid_code.proofs.programs.few_lines.Goals as goal
 

@@ -1,5 +1,5 @@
 use Rattle.std.proofs.Common.{◌≡◌, ◌≤◌, length, take, map, sum}
-use Rattle.mid_code.specs.Lines.{lines}
+use Rattle.mid_blocks.specs.Lines.{lines}
 use Rattle.mid_code.proofs.programs.few_lines.Given as goal
 
 abbrev pub invariant-loop-function : goal.invariant-loop-function

@@ -1,9 +1,9 @@
 use Rattle.std.proofs.Common.{◌∙◌, sym, subst, List, length}
 use Rattle.std.specs.List.{All}
 use Rattle.std.proofs.lemmas.Bool.{both_ways}
-use Rattle.mid_code.specs.declared.code.MidFunction.{MidFunction}
-use Rattle.mid_code.specs.Valid.{ValidFunction}
-use Rattle.mid_code.specs.Tested.{HoldsBelow, may_stay}
+use Rattle.mid_blocks.specs.declared.code.MidFunction.{MidFunction}
+use Rattle.mid_blocks.specs.Valid.{ValidFunction}
+use Rattle.mid_blocks.specs.Tested.{HoldsBelow, may_stay}
 use Rattle.mid_code.proofs.Calling.{program_from, names_to, stay_to}
 use Rattle.mid_code.proofs.programs.valid.Goals as goal
 

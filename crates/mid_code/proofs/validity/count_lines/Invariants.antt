@@ -1,6 +1,6 @@
 use Rattle.std.proofs.Common.{◌≡◌, ◌+◌, ◌≤◌, length, take}
 use Rattle.std.specs.List.{flat_map}
-use Rattle.mid_code.specs.Lines.{block_lines}
+use Rattle.mid_blocks.specs.Lines.{block_lines}
 use Rattle.mid_code.proofs.validity.count_lines.Given as goal
 
 abbrev pub invariant-loop-block : goal.invariant-loop-block

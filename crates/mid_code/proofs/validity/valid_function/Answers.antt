@@ -1,8 +1,8 @@
 use Rattle.std.proofs.Common.{◌∙◌, sym, subst, List, length}
-use Rattle.mid_code.specs.declared.code.MidBlock.{MidBlock}
-use Rattle.mid_code.specs.Tested.{HoldsBelow, is_entered}
+use Rattle.mid_blocks.specs.declared.code.MidBlock.{MidBlock}
+use Rattle.mid_blocks.specs.Tested.{HoldsBelow, is_entered}
 use Rattle.std.proofs.lemmas.Bool.{both_ways}
-use Rattle.mid_code.proofs.Deciding.{valid_from, shape_from, entered_from}
+use Rattle.mid_blocks.proofs.Deciding.{valid_from, shape_from, entered_from}
 use Rattle.mid_code.proofs.validity.valid_function.Goals as goal
 
 pub returns-then-shape_fits : goal.returns-then-shape_fits

@@ -1,10 +1,10 @@
 use Rattle.std.proofs.Common.{◌∙◌, ap, subst}
-use Rattle.c_tree.specs.declared.tree.TopItem.{TopItem}
+use Rattle.c_syntax.specs.declared.tree.TopItem.{TopItem}
 use Rattle.std.proofs.Common.{List}
 use Rattle.std.specs.Prelude.{IsTrue}
-use Rattle.c_tree.specs.Meaning.{Names}
-use Rattle.tree_rules.specs.Literals.{items_literals}
-use Rattle.lowering_words.specs.Labels.{CasesAreWords}
+use Rattle.c_meaning.specs.Meaning.{Names}
+use Rattle.c_syntax.specs.Literals.{items_literals}
+use Rattle.lower_rules.specs.Labels.{CasesAreWords}
 use Rattle.mid_lower.proofs.Known.{known}
 use Rattle.mid_lower.proofs.lowering.facts.Goals as goal
 

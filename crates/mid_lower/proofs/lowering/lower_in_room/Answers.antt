@@ -1,10 +1,10 @@
 use Rattle.std.proofs.Common.{◌≡◌, ◌∙◌, ap, sym, subst, length}
-use Rattle.c_tree.specs.Meaning.{globals}
+use Rattle.c_meaning.specs.Meaning.{globals}
 use Rattle.check_rules.specs.Limits.{resolved_names}
-use Rattle.lowering_law.specs.Pruned.{pruned, Closed, OnlyReached}
-use Rattle.prune_blocks.specs.Leads.{LeadsInside}
+use Rattle.mid_blocks.specs.Pruned.{pruned, Closed, OnlyReached}
+use Rattle.mid_blocks.specs.Leads.{LeadsInside}
 use Rattle.mid_lower.specs.Facts.{low_of, room_of}
-use Rattle.mid_lower.specs.Trims.{Trims}
+use Rattle.mid_prune.specs.Trims.{Trims}
 use Rattle.mid_lower.proofs.Known.{low_is}
 use Rattle.mid_lower.proofs.Leaf.{stays_leaf}
 use Rattle.mid_lower.proofs.lowering.lower_in_room.Goals as goal

@@ -1,5 +1,5 @@
 use Rattle.std.proofs.Common.{◌≡◌, ℕ, List, length, arith, sym, subst}
-use Rattle.mid_code.specs.declared.places.Place.{Place}
+use Rattle.mid_blocks.specs.declared.places.Place.{Place}
 use Rattle.register_halves.specs.Assigned.{IsTaken, AreLocals}
 use Rattle.register_halves.proofs.Taking.{assigned_all}
 use Rattle.register_halves.proofs.assigning.assign_within.Goals as goal

@@ -1,7 +1,7 @@
 use Rattle.std.proofs.Common.{◌≡◌, ℕ, ◌+◌, ◌<◌, ◌++◌, ◌∷◌, [], false, get_or, length, arith, sym, ap, ◌∙◌, subst}
 use Rattle.std.proofs.lemmas.List.{get_or_read}
-use Rattle.mid_code.specs.declared.places.Place.TheVariants.{Pair, Slot}
-use Rattle.mid_code.specs.Liveness.{own_slot}
+use Rattle.mid_blocks.specs.declared.places.Place.TheVariants.{Pair, Slot}
+use Rattle.mid_blocks.specs.Liveness.{own_slot}
 use Rattle.register_halves.proofs.Starting.{StartsSoFar, starts_slot, starts_pair}
 use Rattle.register_halves.proofs.assigning.first_places.Goals as goal
 use Rattle.register_halves.proofs.assigning.first_places.Goals.{then-index+in_ok-push, else-index+in_ok-push-2}

@@ -1,12 +1,12 @@
 use Rattle.std.proofs.Common.{◌≡◌, ℕ, ◌+◌, ◌<◌, ◌++◌, ◌∷◌, [], List, true, false, get_or, length, arith, rules, sym, ◌∙◌, subst}
 use Rattle.std.proofs.lemmas.List.{get_or_read, get_or_default}
 use Rattle.std.proofs.lemmas.List.Sorted.{IsNonDecreasingBy-from_sort_by_key}
-use Rattle.mid_code.specs.declared.code.MidFunction.{MidFunction}
-use Rattle.register_halves.specs.declared.extents.Lives.{Lives}
+use Rattle.mid_blocks.specs.declared.code.MidFunction.{MidFunction}
+use Rattle.register_liveness.specs.declared.extents.Lives.{Lives}
 use Rattle.register_halves.specs.declared.gather.Span.{Span}
-use Rattle.register_halves.specs.Met.{AreLives}
+use Rattle.register_liveness.specs.Met.{AreLives}
 use Rattle.register_halves.specs.Spans.{AreSpans}
-use Rattle.register_halves.proofs.Meeting.{across_from, across_to}
+use Rattle.register_liveness.proofs.Meeting.{across_from, across_to}
 use Rattle.register_halves.proofs.Gathered.{live_within}
 use Rattle.register_halves.proofs.Starting.{LocalsSoFar, local_more, local_none, locals_sorted}
 use Rattle.register_halves.proofs.assigning.sorted_locals.Goals as goal

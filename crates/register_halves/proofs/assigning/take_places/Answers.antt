@@ -1,12 +1,12 @@
 use Rattle.std.proofs.Common.{◌≡◌, ℕ, ◌+◌, ◌<◌, ◌≤◌, List, get_or, length, arith, sym, ap, ◌∙◌, subst, refl, Vec, Global}
 use Rattle.std.specs.Prelude.{slice_set}
 use Rattle.std.proofs.lemmas.List.{get_or_default}
-use Rattle.mid_code.specs.declared.places.Place.{Place}
-use Rattle.mid_code.specs.declared.places.Place.TheVariants.{Pair, Slot}
-use Rattle.mid_code.specs.Liveness.{own_slot}
+use Rattle.mid_blocks.specs.declared.places.Place.{Place}
+use Rattle.mid_blocks.specs.declared.places.Place.TheVariants.{Pair, Slot}
+use Rattle.mid_blocks.specs.Liveness.{own_slot}
 use Rattle.register_halves.specs.declared.gather.Span.{Span}
 use Rattle.register_halves.proofs.Taking.{TakenSoFar, taken_none, taken_all, pair_taken, slot_taken}
-use Rattle.register_halves.proofs.Living.{live_position}
+use Rattle.register_liveness.proofs.Living.{live_position}
 use Rattle.register_halves.proofs.assigning.take_places.Goals as goal
 use Rattle.register_halves.proofs.assigning.take_places.Goals.{in-Some, in-None}
 

@@ -1,9 +1,9 @@
 use Rattle.std.proofs.Common.{ℕ, List, Option, arith, sym, ◌∙◌, subst, Vec, Global}
-use Rattle.mid_code.specs.Lines.{lines}
+use Rattle.mid_blocks.specs.Lines.{lines}
 use Rattle.register_halves.specs.Fit.{Holds, Clash, HasRoom}
 use Rattle.std.specs.Prelude.{[], ◌∷◌}
-use Rattle.mid_code.proofs.Positions.{got}
-use Rattle.register_halves.proofs.Widening.{write_met}
+use Rattle.mid_blocks.proofs.Positions.{got}
+use Rattle.register_liveness.proofs.Widening.{write_met}
 use Rattle.register_halves.proofs.FitLines.{IsIn, in_first, in_later, unfit_params, unfit_write, fits_with, fits_without}
 use Rattle.register_halves.proofs.fit.check_line.Goals as goal
 use Rattle.register_halves.proofs.fit.check_line.Goals.{else-at-eq0-via-then-at-eq0+else-not-enter_params, else-at-eq0-via-else-at-eq0}

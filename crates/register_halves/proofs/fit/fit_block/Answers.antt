@@ -1,7 +1,7 @@
 use Rattle.std.proofs.Common.{◌≡◌, ◌+◌, ◌-◌, arith, subst, inl, inr}
 use Rattle.std.proofs.lemmas.Bool.{cases_lt}
 use Rattle.register_halves.specs.Fit.{FitsAt}
-use Rattle.mid_code.proofs.ValidLines.{block_fits}
+use Rattle.mid_blocks.proofs.ValidLines.{block_fits}
 use Rattle.register_halves.proofs.FitEnds.{line_here, step_behind_at}
 use Rattle.register_halves.proofs.fit.fit_block.Goals as goal
 

@@ -1,8 +1,8 @@
 use Rattle.std.proofs.Common.{◌≡◌, length, arith, ap, inl, inr}
 use Rattle.std.proofs.lemmas.Bool.{cases_lt}
-use Rattle.mid_code.specs.Lines.{first_of}
-use Rattle.mid_code.proofs.Positions.{first_behind}
-use Rattle.mid_code.proofs.ValidLines.{block_there, few_blocks, first_last}
+use Rattle.mid_blocks.specs.Lines.{first_of}
+use Rattle.mid_blocks.proofs.Positions.{first_behind}
+use Rattle.mid_blocks.proofs.ValidLines.{block_there, few_blocks, first_last}
 use Rattle.register_halves.proofs.fit.fit_blocks.Goals as goal
 
 pub fit_block-requires-clause-small : goal.fit_block-requires-clause-small

@@ -1,5 +1,5 @@
 use Rattle.std.proofs.Common.{◌≡◌}
-use Rattle.mid_code.specs.Lines.{first_of}
+use Rattle.mid_blocks.specs.Lines.{first_of}
 use Rattle.register_halves.specs.Fit.{FitWithin}
 use Rattle.register_halves.proofs.fit.fit_blocks.Given as goal
 

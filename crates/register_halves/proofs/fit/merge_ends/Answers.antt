@@ -1,14 +1,14 @@
 use Rattle.std.proofs.Common.{◌≡◌, ℕ, ◌+◌, ◌<◌, List, [], ◌∷◌, Some, length, arith, sym, ap, subst}
 use Rattle.std.specs.Prelude.{slice_get}
 use Rattle.std.specs.List.{Contains}
-use Rattle.mid_code.specs.declared.code.MidBlock.{MidBlock}
-use Rattle.mid_code.specs.declared.code.MidFunction.{MidFunction}
-use Rattle.mid_code.specs.Valid.{ValidFunction}
-use Rattle.register_halves.specs.Uses.{successors}
+use Rattle.mid_blocks.specs.declared.code.MidBlock.{MidBlock}
+use Rattle.mid_blocks.specs.declared.code.MidFunction.{MidFunction}
+use Rattle.mid_blocks.specs.Valid.{ValidFunction}
+use Rattle.register_liveness.specs.Uses.{successors}
 use Rattle.register_halves.specs.Fit.{Holds}
-use Rattle.register_halves.proofs.Wanted.{contains_head, contains_tail}
-use Rattle.register_halves.proofs.Valid.{successors_exist}
-use Rattle.register_halves.proofs.Links.{only_one}
+use Rattle.register_liveness.proofs.Wanted.{contains_head, contains_tail}
+use Rattle.register_liveness.proofs.Valid.{successors_exist}
+use Rattle.register_liveness.proofs.Links.{only_one}
 use Rattle.register_halves.proofs.FitEnds.{WantedIn, one_row, two_rows, no_rows, behind_end, unfit_row}
 use Rattle.register_halves.proofs.fit.merge_ends.Goals as goal
 

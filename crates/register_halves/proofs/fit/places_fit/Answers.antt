@@ -1,8 +1,8 @@
 use Rattle.std.proofs.Common.{◌≡◌, List, Bool, true, false, length, arith, sym, subst, inl, inr}
 use Rattle.std.proofs.lemmas.Bool.{cases_Bool}
 use Rattle.std.proofs.lemmas.Option.{MatchOption-at_none}
-use Rattle.mid_code.specs.Lines.{lines}
-use Rattle.mid_code.specs.Liveness.{PlacesFit}
+use Rattle.mid_blocks.specs.Lines.{lines}
+use Rattle.mid_blocks.specs.Liveness.{PlacesFit}
 use Rattle.register_halves.specs.Fit.{NoneAcross, IsUnfit, AreStarts, FitWithin}
 use Rattle.register_halves.proofs.Deciding.{if_ok_both, pairs_there, unfit, none_across, fit_from}
 use Rattle.register_halves.proofs.fit.places_fit.Goals as goal

@@ -1,8 +1,8 @@
 use Rattle.std.proofs.Common.{ℕ, ◌+◌, Option, get_or, arith, sym, subst, Vec, Global}
 use Rattle.std.proofs.lemmas.List.Elements.{Contains-get_or}
-use Rattle.register_halves.specs.Search.{AreWantedAt}
+use Rattle.register_liveness.specs.Search.{AreWantedAt}
 use Rattle.register_halves.specs.Fit.{AreStarts}
-use Rattle.mid_code.proofs.ValidLines.{few_blocks}
+use Rattle.mid_blocks.proofs.ValidLines.{few_blocks}
 use Rattle.register_halves.proofs.Fitting.{place_is}
 use Rattle.register_halves.proofs.StartRows.{starts_more, starts_slot, starts_clash}
 use Rattle.register_halves.proofs.fit.starts.Goals as goal

@@ -1,8 +1,8 @@
 use Rattle.std.proofs.Common.{ℕ, List, Option, get_or, length, arith, sym, ap, ◌∙◌, subst, Vec, Global}
-use Rattle.mid_code.specs.Lines.{lines}
+use Rattle.mid_blocks.specs.Lines.{lines}
 use Rattle.register_halves.specs.Fit.{Holds, IsWantedBehind}
-use Rattle.mid_code.proofs.Positions.{got}
-use Rattle.register_halves.proofs.Widening.{reads_met, write_met}
+use Rattle.mid_blocks.proofs.Positions.{got}
+use Rattle.register_liveness.proofs.Widening.{reads_met, write_met}
 use Rattle.register_halves.proofs.Fitting.{holds_in}
 use Rattle.register_halves.proofs.FitLines.{IsPassed, drop_written, keep_all, hold_at, unfit_reads}
 use Rattle.register_halves.proofs.fit.want_line.Goals as goal

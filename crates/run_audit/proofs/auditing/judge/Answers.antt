@@ -1,10 +1,10 @@
 use Rattle.std.proofs.Common.{◌≡◌, ◌∙◌, ℕ, List, Bool, sym, subst}
 use Rattle.std.specs.Prelude.{Result, Ok, Err, IfOk}
 use Rattle.elf_image.specs.Layout.{fields_of}
-use Rattle.mips_isa.specs.Blocks.{IsStart}
+use Rattle.mips_text.specs.Blocks.{IsStart}
 use Rattle.mips_isa.specs.Image.{ImageFields, boot_state}
 use Rattle.mips_isa.specs.Machine.{State}
-use Rattle.mips_isa.specs.Text.{IsText}
+use Rattle.mips_text.specs.Text.{IsText}
 use Rattle.mips_machine.specs.View.{state_of}
 use Rattle.harden_lint.specs.declared.TypingRow.{TypingRow}
 use Rattle.harden_lint.specs.Rows.{Typed}

@@ -1,5 +1,5 @@
 use Rattle.std.proofs.Common.{◌≡◌, ℕ, List}
-use Rattle.mips_isa.specs.Blocks.{IsStart}
+use Rattle.mips_text.specs.Blocks.{IsStart}
 use Rattle.mips_isa.specs.Image.{ImageFields, boot_state}
 use Rattle.mips_machine.specs.View.{state_of}
 use Rattle.harden_lint.specs.Rules.{WellTyped}

@@ -1,5 +1,5 @@
 use Rattle.std.proofs.Common.{◌≡◌, take, map}
-use Rattle.hard_code.specs.declared.code.HardBlock.{HardBlock}
+use Rattle.hard_items.specs.declared.code.HardBlock.{HardBlock}
 use Rattle.signature_assign.proofs.edges.successors.Given as goal
 
 abbrev pub invariant-loop-block : goal.invariant-loop-block

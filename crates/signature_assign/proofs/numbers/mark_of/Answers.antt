@@ -1,5 +1,5 @@
 use Rattle.std.proofs.Common.{◌≡◌, ◌+◌, Bool, false, refl, sym, subst}
-use Rattle.mips_isa.specs.Blocks.{Head}
+use Rattle.mips_text.specs.Blocks.{Head}
 use Rattle.std.proofs.lemmas.List.{get_or_read}
 use Rattle.sign_law.specs.Graph.{IsSucc}
 use Rattle.sign_law.specs.Signs.{IsReached}

@@ -1,5 +1,5 @@
 use Rattle.std.proofs.Common.{List, length, sym, subst}
-use Rattle.hard_code.specs.declared.code.Mark.{Mark}
+use Rattle.hard_items.specs.declared.code.Mark.{Mark}
 use Rattle.sign_law.specs.Marks.{HasSigns}
 use Rattle.signature_assign.proofs.Signing.{has_signs}
 use Rattle.signature_assign.proofs.numbers.sign.Goals as goal

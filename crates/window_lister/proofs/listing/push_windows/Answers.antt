@@ -1,7 +1,7 @@
 use Rattle.std.proofs.Common.{ℕ, ◌≡◌, ◌+◌, ◌++◌, ◌<◌, arith, rules, sym, ◌∙◌, ap, refl, subst, List, [], ◌∷◌, true, false}
 use Rattle.std.specs.Int.{bit_at}
 use Rattle.std.proofs.lemmas.Nat.Bits.{bit_at-zero}
-use Rattle.window_lister.specs.WindowList.{WindowsBefore}
+use Rattle.lint_words.specs.WindowList.{WindowsBefore}
 use Rattle.window_lister.proofs.WindowPass.{list_with, list_without, next_word, skip_word}
 use Rattle.window_lister.proofs.listing.push_windows.Goals as goal
 use Rattle.window_lister.proofs.listing.push_windows.Goals.{then-names+in_ok-push, else-names}

@@ -1,4 +1,4 @@
-use Rattle.window_lister.specs.WindowList.{WindowsBefore}
+use Rattle.lint_words.specs.WindowList.{WindowsBefore}
 use Rattle.window_lister.proofs.listing.push_windows.Given as goal
 
 abbrev pub invariant-loop-r : goal.invariant-loop-r

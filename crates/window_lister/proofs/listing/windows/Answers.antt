@@ -1,6 +1,6 @@
 use Rattle.std.proofs.Common.{ℕ, ◌≡◌, ◌∙◌, ◌+◌, ◌*◌, List, arith, subst}
 use Rattle.hard_words.specs.Words.{AreWords}
-use Rattle.window_lister.specs.WindowList.{WindowsBefore}
+use Rattle.lint_words.specs.WindowList.{WindowsBefore}
 use Rattle.window_lister.proofs.WindowPass.{last_list}
 use Rattle.window_lister.proofs.listing.windows.Goals as goal
 

@@ -1,5 +1,5 @@
 use Rattle.std.proofs.Common.{◌+◌, ◌*◌}
-use Rattle.window_lister.specs.WindowList.{WindowsBefore}
+use Rattle.lint_words.specs.WindowList.{WindowsBefore}
 use Rattle.window_lister.proofs.listing.windows.Given as goal
 
 abbrev pub invariant-loop-k : goal.invariant-loop-k

@@ -1,5 +1,5 @@
 use Rattle.std.proofs.Common.{◌≡◌, ◌++◌, take, map}
-use Rattle.c_tree.specs.Meaning.{global}
+use Rattle.c_meaning.specs.Meaning.{global}
 use Rattle.eval_state.proofs.files.Files.add_all.Given as goal
 
 abbrev pub invariant-loop-variable : goal.invariant-loop-variable

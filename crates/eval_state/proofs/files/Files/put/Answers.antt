@@ -1,5 +1,5 @@
 use Rattle.std.proofs.Common.{◌≡◌, ◌<◌, ℕ, ◌-◌, ◌∙◌, sym, ap, get_or, arith}
-use Rattle.c_tree.specs.Run as run
+use Rattle.c_meaning.specs.Run as run
 use Rattle.eval_state.specs.Files.{with_word}
 use Rattle.eval_state.proofs.Firsts.{put_first, put_no_first, word_same}
 use Rattle.eval_state.proofs.files.Files.put.Goals as goal

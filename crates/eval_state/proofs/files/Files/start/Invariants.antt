@@ -1,5 +1,5 @@
 use Rattle.std.proofs.Common.{◌≡◌, take}
-use Rattle.c_tree.specs.Meaning.{globals}
+use Rattle.c_meaning.specs.Meaning.{globals}
 use Rattle.eval_state.proofs.files.Files.start.Given as goal
 
 abbrev pub invariant-loop-item : goal.invariant-loop-item

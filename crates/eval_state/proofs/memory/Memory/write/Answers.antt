@@ -1,5 +1,5 @@
 use Rattle.std.proofs.Common.{sym, ap, ◌∙◌, reverse}
-use Rattle.c_tree.specs.Run.{write}
+use Rattle.c_meaning.specs.Run.{write}
 use Rattle.eval_state.specs.State.{Held, state}
 use Rattle.eval_state.proofs.Writes.{written_global}
 use Rattle.eval_state.proofs.memory.Memory.write.Goals as goal

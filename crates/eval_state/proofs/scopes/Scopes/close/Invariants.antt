@@ -1,5 +1,5 @@
 use Rattle.std.proofs.Common.{◌≡◌, length, reverse}
-use Rattle.c_tree.specs.Run.{without_first}
+use Rattle.c_meaning.specs.Run.{without_first}
 use Rattle.eval_state.specs.Cells.{scopes_of, Kept}
 use Rattle.eval_state.proofs.scopes.Scopes.close.Given as goal
 

@@ -1,5 +1,5 @@
 use Rattle.std.proofs.Common.{◌≡◌, ℕ, ◌-◌, ◌∙◌, sym, ap, get_or}
-use Rattle.c_tree.specs.Run.{is_some_value, put_innermost}
+use Rattle.c_meaning.specs.Run.{is_some_value, put_innermost}
 use Rattle.eval_state.specs.Cells.{offset}
 use Rattle.eval_state.proofs.Uses.{not_there, put_none, put_there, is_there}
 use Rattle.eval_state.proofs.scopes.Scopes.put.Goals as goal

@@ -1,7 +1,7 @@
 use Rattle.std.proofs.Common.{◌≡◌, List, ℕ, Bool, arith, ap, length, sym, ◌∙◌, subst, map}
-use Rattle.hard_code.specs.declared.code.HardBlock.{HardBlock}
-use Rattle.hard_code.specs.declared.code.HardProgram.{HardProgram}
-use Rattle.hard_code.specs.WellFormed.{WellFormed}
+use Rattle.hard_items.specs.declared.code.HardBlock.{HardBlock}
+use Rattle.hard_items.specs.declared.code.HardProgram.{HardProgram}
+use Rattle.hard_items.specs.WellFormed.{WellFormed}
 use Rattle.sign_law.specs.Marks.{successors_of}
 use Rattle.signature_assign.specs.Edges.{AreEdges, backward, twos}
 use Rattle.signature_assign.proofs.Premises.{long_map}

@@ -1,6 +1,0 @@
-use Rattle.std.proofs.Common.{take}
-use Rattle.block_costs.specs.Bodies.{AreBodies}
-use Rattle.block_costs.proofs.bodies.bodies_of.Given as goal
-
-abbrev pub invariant-loop-item : goal.invariant-loop-item
-invariant-loop-item l = AreBodies (take l.item-index l.items) l.bodies

@@ -1,6 +1,0 @@
-use Rattle.std.proofs.Common.{◌≡◌, ◌-◌, ◌^◌, min, map, take, sum}
-use Rattle.c_tree.specs.Costs.{global_cost}
-use Rattle.block_costs.proofs.costs.cost_of_globals.Given as goal
-
-abbrev pub invariant-loop-global : goal.invariant-loop-global
-invariant-loop-global l = l.cost ≡ min (sum (map (global_cost l.bodies) (take l.global-index l.globals))) (2 ^ 64 - 1)

@@ -1,5 +1,0 @@
-use Rattle.block_laws.proofs.Keeping.{well_formed_stays as law}
-use Rattle.block_laws.proofs.well_formed_stays.Goals as goal
-
-pub returns : goal.returns
-returns g c = law c

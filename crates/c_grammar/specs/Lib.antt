@@ -1,0 +1,13 @@
+pub mod Places
+pub mod Operators
+pub mod Expressions
+pub mod ReadExpressions
+pub mod Gives
+pub mod Specifiers
+pub mod Lists
+pub mod Statements
+pub mod ReadStatements
+pub mod Marks
+pub mod Items
+pub mod ReadItems
+pub mod Decided

@@ -1,0 +1,11 @@
+pub mod Firsts
+pub mod Views
+pub mod Related
+pub mod More
+pub mod Patterns
+pub mod Native
+pub mod NativeRun
+pub mod Output
+pub mod Levels
+pub mod Recursive
+pub mod Active

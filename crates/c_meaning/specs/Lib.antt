@@ -1,0 +1,4 @@
+pub mod Operators
+pub mod Run
+pub mod Meaning
+pub mod Laws

@@ -1,7 +1,0 @@
-use Rattle.std.proofs.Common.{◌≡◌, ◌++◌, take}
-use Rattle.std.specs.List.{flat_map}
-use Rattle.c_tree.specs.Graph.{expression_calls}
-use Rattle.call_graph.proofs.calls.+expression_calls.Given as goal
-
-abbrev pub invariant-add_expressions-loop-e : goal.invariant-add_expressions-loop-e
-invariant-add_expressions-loop-e l = l.calls ≡ l.fn.calls ++ flat_map expression_calls (take l.e-index l.all)

@@ -1,7 +1,0 @@
-use Rattle.std.proofs.Common.{◌<◌, length, take}
-use Rattle.std.specs.List.{All}
-use Rattle.call_graph.specs.Lists.{Grown}
-use Rattle.call_graph.proofs.graph.grow_to_each.Given as goal
-
-abbrev pub invariant-loop-name : goal.invariant-loop-name
-invariant-loop-name l = record { grown : Grown l.fn.lists l.lists; within : All (λ name. name < length l.lists) (take l.name-index l.names) }

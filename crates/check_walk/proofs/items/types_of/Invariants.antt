@@ -1,6 +1,0 @@
-use Rattle.std.proofs.Common.{◌≡◌, take}
-use Rattle.check_rules.specs.Walk.{param_types}
-use Rattle.check_walk.proofs.items.types_of.Given as goal
-
-abbrev pub invariant-loop-p : goal.invariant-loop-p
-invariant-loop-p l = l.types ≡ param_types (take l.p-index l.params)

@@ -1,9 +1,0 @@
-mod Ascends
-mod Layers
-mod FitExpressions
-mod Inside
-mod FitStatements
-mod Constants
-mod FitGlobals
-mod FitFunctions
-mod FitPrograms

@@ -1,9 +1,0 @@
-//! The law that replacing names by positions leaves the labels of each clause of a `switch`.
-#![tactic(auto)]
-
-ghost use Rattle.checked_labels.specs.Laws.{StaysLabelled};
-
-/// Where no clause in a program is without a label, none is in the program whose names have been replaced by positions.
-pub fn stays_labelled()
-    ensures { StaysLabelled }
-{}

@@ -1,9 +1,0 @@
-use Rattle.std.proofs.Common.{◌≡◌, ◌≤◌, ◌*◌, drop, ◌++◌}
-use Rattle.code_layout.specs.Far.{places_by}
-use Rattle.code_layout.proofs.far.far_places.Given as goal
-
-abbrev pub invariant-loop-far : goal.invariant-loop-far
-invariant-loop-far l = record {
-  low : l.at ≤ 2 * l.far-index;
-  listed : l.places.items ++ places_by l.at (drop l.far-index l.fars) ≡ places_by 0 l.fars;
-}

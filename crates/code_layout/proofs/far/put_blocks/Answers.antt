@@ -1,8 +1,0 @@
-use Rattle.std.proofs.Common.{◌≡◌, ◌<◌, ◌∙◌, sym, arith, subst, length}
-use Rattle.code_layout.specs.Far.{AllThere}
-use Rattle.code_layout.proofs.far.put_blocks.Goals as goal
-
-pub put_block-requires-clause-there : goal.put_block-requires-clause-there
-put_block-requires-clause-there c =
-    let h : c.loop-number.number < length c.args.blocks.now = omega arith in
-    subst (AllThere (length c.args.places.now)) (sym c.index-blocks-number.is) (c.requires.there c.loop-number.number c.index-blocks-number.result h)

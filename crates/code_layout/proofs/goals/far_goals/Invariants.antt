@@ -1,9 +1,0 @@
-use Rattle.std.proofs.Common.{◌≡◌, drop, ◌++◌}
-use Rattle.code_layout.specs.Far.{fars_by}
-use Rattle.code_layout.proofs.goals.far_goals.Given as goal
-
-abbrev pub invariant-loop-block : goal.invariant-loop-block
-invariant-loop-block l = record {
-  at : l.at ≡ l.block-index;
-  listed : l.fars.items ++ fars_by l.starts l.sums l.at (drop l.block-index l.blocks) ≡ fars_by l.starts l.sums 0 l.blocks;
-}

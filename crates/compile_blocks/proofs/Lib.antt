@@ -1,4 +1,0 @@
-mod Fitted
-mod Leaf
-mod Starts
-mod Composed

@@ -1,5 +1,0 @@
-use Rattle.compile_law.proofs.Compiled.{can_become}
-use Rattle.compile_law.proofs.can_be_hardened.Goals as goal
-
-pub returns : goal.returns
-returns g c mid p k l f = can_become c mid p k l f

@@ -1,5 +1,0 @@
-use Rattle.compile_law.proofs.Compiled.{is_hardened}
-use Rattle.compile_law.proofs.compiled_is_hardened.Goals as goal
-
-pub returns : goal.returns
-returns c program r mid p image g = is_hardened c.same_run.ensures program r mid p image g

@@ -1,4 +1,0 @@
-pub mod Same
-pub mod Hardened
-pub mod Lowered
-pub mod Laws

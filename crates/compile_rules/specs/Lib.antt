@@ -1,0 +1,4 @@
+pub mod Same
+pub mod Hardened
+pub mod Compiled
+pub mod Refusals

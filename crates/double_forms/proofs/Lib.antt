@@ -1,8 +1,0 @@
-pub mod Emits
-pub mod Closed
-pub mod Says
-pub mod Numbers
-pub mod BlockKinds
-pub mod Wholes
-pub mod Wells
-pub mod Counts

@@ -1,5 +1,0 @@
-use Rattle.double_forms.proofs.Counts.{counts_fit}
-use Rattle.double_forms.proofs.doubled_counts.Goals as goal
-
-pub returns : goal.returns
-returns g mid places p d = counts_fit mid places p d

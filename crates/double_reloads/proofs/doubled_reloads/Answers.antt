@@ -1,5 +1,0 @@
-use Rattle.double_reloads.proofs.Reloads.{few_reloads}
-use Rattle.double_reloads.proofs.doubled_reloads.Goals as goal
-
-pub returns : goal.returns
-returns g mid places p d s = few_reloads mid places p d s

@@ -1,0 +1,11 @@
+pub mod Streams
+pub mod Run
+pub mod Forms
+pub mod Ways
+pub mod WellFormed
+pub mod Rules
+pub mod Counts
+pub mod Heads
+pub mod Keeping
+pub mod Runs
+pub mod Counted

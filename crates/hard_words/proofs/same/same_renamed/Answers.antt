@@ -1,5 +1,0 @@
-use Rattle.hard_words.proofs.Observed.{same_renamed}
-use Rattle.hard_words.proofs.same.same_renamed.Goals as goal
-
-pub returns : goal.returns
-returns g c = same_renamed _ _

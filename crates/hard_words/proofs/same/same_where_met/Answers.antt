@@ -1,5 +1,0 @@
-use Rattle.hard_words.proofs.Meeting.{same_where_met}
-use Rattle.hard_words.proofs.same.same_where_met.Goals as goal
-
-pub returns : goal.returns
-returns g c = same_where_met _

@@ -1,0 +1,11 @@
+pub mod Results
+pub mod Calls
+pub mod Ordered
+pub mod Splitting
+pub mod Signed
+pub mod Lists
+pub mod Images
+pub mod Fitted
+pub mod Leaf
+pub mod Starts
+pub mod Composed

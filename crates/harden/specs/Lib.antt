@@ -1,0 +1,4 @@
+pub mod Image
+pub mod HardenChainSteps
+pub mod Blocks
+pub mod CompileBlocksSteps

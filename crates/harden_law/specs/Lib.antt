@@ -1,3 +1,0 @@
-pub mod LaidOut
-pub mod Hardened
-pub mod Laws

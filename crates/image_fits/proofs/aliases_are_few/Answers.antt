@@ -1,5 +1,0 @@
-use Rattle.image_fits.proofs.Fitting.{aliases_few}
-use Rattle.image_fits.proofs.aliases_are_few.Goals as goal
-
-pub returns : goal.returns
-returns c image n place h s = aliases_few image h n place s

@@ -1,5 +1,0 @@
-use Rattle.image_fits.proofs.Fitting.{hardened_fits as law}
-use Rattle.image_fits.proofs.hardened_fits.Goals as goal
-
-pub returns : goal.returns
-returns c image n place h s small = law c.encodes_decoded.ensures image n place h s small

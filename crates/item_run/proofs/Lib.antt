@@ -1,4 +1,0 @@
-pub mod Lists
-pub mod Items
-pub mod Steps
-pub mod Going

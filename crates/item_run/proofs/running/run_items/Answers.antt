@@ -1,5 +1,0 @@
-use Rattle.item_run.proofs.Going.{came_seen}
-use Rattle.item_run.proofs.running.run_items.Goals as goal
-
-pub returns : goal.returns
-returns c = came_seen c.args.program.now c.args.input.now c.args.steps _ _ _ c.end.ensures c.in_ok-output.ensures

@@ -1,0 +1,14 @@
+pub mod Spans
+pub mod LaidSignsWhole
+pub mod Words
+pub mod Few
+pub mod Decoded
+pub mod Listed
+pub mod Weights
+pub mod LayoutCountsWhole
+pub mod Parts
+pub mod Checks
+pub mod Clear
+pub mod LayoutTurnsWhole
+pub mod Breaks
+pub mod Reached

@@ -1,0 +1,5 @@
+pub mod Signed
+pub mod Words
+pub mod Counted
+pub mod Turning
+pub mod Reached

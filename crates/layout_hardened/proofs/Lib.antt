@@ -1,0 +1,10 @@
+pub mod Places
+pub mod Origin
+pub mod Goals
+pub mod Laying
+pub mod LaidOut
+pub mod Prepared
+pub mod Whole
+pub mod Pairs
+pub mod Fitting
+pub mod Starts

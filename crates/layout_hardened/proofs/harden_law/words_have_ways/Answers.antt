@@ -1,0 +1,5 @@
+use Rattle.layout_hardened.proofs.Whole as proof
+use Rattle.layout_hardened.proofs.harden_law.words_have_ways.Goals as goal
+
+pub returns : goal.returns
+returns c = proof.words_have_ways

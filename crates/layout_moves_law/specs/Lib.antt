@@ -1,0 +1,3 @@
+pub mod Smooth
+pub mod WidenLawLaw
+pub mod SplitLawLaw

@@ -1,4 +1,0 @@
-pub mod Parts
-pub mod Checks
-pub mod Clear
-pub mod Whole

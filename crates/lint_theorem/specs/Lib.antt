@@ -1,0 +1,2 @@
+pub mod Divert
+pub mod Hardened

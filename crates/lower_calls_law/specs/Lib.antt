@@ -1,0 +1,2 @@
+pub mod LoweringCallsLaws
+pub mod LoweringChainsLaws

@@ -1,6 +1,0 @@
-use Rattle.std.proofs.Common.{refl}
-use Rattle.lower_emit.proofs.Written.{written_step}
-use Rattle.lower_emit.proofs.builder.Builder.step.Goals as goal
-
-pub returns : goal.returns
-returns c = written_step c.args.self.now _ c.args.step refl c.in_ok-push.ensures.ok

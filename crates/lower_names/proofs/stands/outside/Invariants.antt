@@ -1,0 +1,10 @@
+use Rattle.std.proofs.Common.{◌≡◌, ◌≤◌, ℕ, get_or, drop, length}
+use Rattle.lower_expressions.specs.Names.{unknown}
+use Rattle.lower_names.specs.Stands.{among_globals}
+use Rattle.lower_names.proofs.stands.outside.Given as goal
+
+abbrev pub invariant-loop-number : goal.invariant-loop-number
+invariant-loop-number l = (l.number ≤ length l.globals) × ((q : ℕ) → get_or l.known.items q unknown ≡ among_globals q l.number (drop l.number l.globals))
+
+abbrev pub decreases-loop-number : goal.decreases-loop-number
+decreases-loop-number l = l.number

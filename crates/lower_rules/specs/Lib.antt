@@ -1,0 +1,12 @@
+pub mod Bindings
+pub mod Scoping
+pub mod Expressions
+pub mod Statements
+pub mod Functions
+pub mod Programs
+pub mod Seen
+pub mod Fitting
+pub mod Chains
+pub mod Labels
+pub mod Room
+pub mod Lowered

@@ -1,0 +1,2 @@
+pub mod LoweringBlocksLaws
+pub mod LoweringWordsLaws

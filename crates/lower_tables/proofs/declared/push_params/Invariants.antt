@@ -1,6 +1,0 @@
-use Rattle.std.proofs.Common.{◌≡◌, ◌++◌, take, flat_map}
-use Rattle.lower_tables.specs.Parts.{variable_of_param}
-use Rattle.lower_tables.proofs.declared.push_params.Given as goal
-
-abbrev pub invariant-loop-param : goal.invariant-loop-param
-invariant-loop-param l = l.out ≡ l.fn.out ++ flat_map variable_of_param (take l.param-index l.params)

@@ -1,6 +1,0 @@
-use Rattle.std.proofs.Common.{◌≡◌, take, map}
-use Rattle.c_tree.specs.Meaning.{constant}
-use Rattle.lower_tables.proofs.files.constants.Given as goal
-
-abbrev pub invariant-loop-e : goal.invariant-loop-e
-invariant-loop-e l = l.words ≡ map constant (take l.e-index l.list)

@@ -1,7 +1,0 @@
-use Rattle.std.proofs.Common.{◌≡◌, ◌++◌, take, map}
-use Rattle.c_tree.specs.Meaning as meaning
-use Rattle.lowering_law.specs.Programs as programs
-use Rattle.lower_tables.proofs.files.push_shapes.Given as goal
-
-abbrev pub invariant-loop-g : goal.invariant-loop-g
-invariant-loop-g l = l.out ≡ l.fn.out ++ map programs.shape_of (map meaning.global (take l.g-index l.variables))

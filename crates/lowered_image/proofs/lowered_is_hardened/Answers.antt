@@ -1,5 +1,0 @@
-use Rattle.lowered_image.proofs.Joined.{is_hardened}
-use Rattle.lowered_image.proofs.lowered_is_hardened.Goals as goal
-
-pub returns : goal.returns
-returns c program r mid image s e g k = is_hardened c.lowered_runs.ensures program r mid image s e g k

@@ -1,5 +1,0 @@
-use Rattle.lowered_image.proofs.Joined.{lowered_runs as law}
-use Rattle.lowered_image.proofs.lowered_runs.Goals as goal
-
-pub returns : goal.returns
-returns c program r mid s e g = law c.same_run.ensures program r mid s e g

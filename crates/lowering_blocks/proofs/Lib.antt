@@ -1,4 +1,0 @@
-pub mod Reach
-pub mod Lively
-pub mod Pigeons
-pub mod Cost

@@ -1,5 +1,0 @@
-use Rattle.lowering_law.proofs.Final.{runs}
-use Rattle.lowering_law.proofs.laws.runs_as_tree.Goals as goal
-
-pub returns : goal.returns
-returns c = runs

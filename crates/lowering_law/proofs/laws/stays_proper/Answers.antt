@@ -1,5 +1,0 @@
-use Rattle.lowering_law.proofs.Final.{proper}
-use Rattle.lowering_law.proofs.laws.stays_proper.Goals as goal
-
-pub returns : goal.returns
-returns c = proper

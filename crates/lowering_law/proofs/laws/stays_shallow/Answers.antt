@@ -1,5 +1,0 @@
-use Rattle.lowering_law.proofs.Final.{shallow}
-use Rattle.lowering_law.proofs.laws.stays_shallow.Goals as goal
-
-pub returns : goal.returns
-returns c = shallow

@@ -1,9 +1,0 @@
-//! A program in blocks without its last globals, which no step uses, does the same.
-#![tactic(auto)]
-
-ghost use Rattle.lowering_trim.specs.Trimmed.{TrimmedStays};
-
-/// A program in blocks without globals that no step uses runs as before, stays proper, and its calls keep their room.
-pub fn trimmed_stays()
-    ensures { TrimmedStays }
-{}

@@ -1,3 +1,0 @@
-pub mod Narrow
-pub mod NarrowStatements
-pub mod Programs

@@ -1,0 +1,4 @@
+pub mod Positions
+pub mod Deciding
+pub mod LiveLines
+pub mod ValidLines

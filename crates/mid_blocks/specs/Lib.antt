@@ -1,0 +1,12 @@
+pub mod Lines
+pub mod Run
+pub mod Valid
+pub mod Bounds
+pub mod Liveness
+pub mod Size
+pub mod Tested
+pub mod Words
+pub mod Leaf
+pub mod Renumbered
+pub mod Pruned
+pub mod Leads

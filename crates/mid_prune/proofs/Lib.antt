@@ -1,0 +1,5 @@
+pub mod Trimming
+pub mod Marking
+pub mod Spreading
+pub mod Keeping
+pub mod Used

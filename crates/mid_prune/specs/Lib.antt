@@ -1,0 +1,4 @@
+pub mod Trimmed
+pub mod Counts
+pub mod Work
+pub mod Trims

@@ -1,6 +1,0 @@
-use Rattle.std.proofs.Common.{◌≡◌, take}
-use Rattle.lowering_law.specs.Pruned.{function_marks}
-use Rattle.prune_blocks.proofs.marks.function_marks.Given as goal
-
-abbrev pub invariant-loop-blocks : goal.invariant-loop-blocks
-invariant-loop-blocks l = l.list.items ≡ function_marks (take l.blocks-index l.marks)

@@ -1,9 +1,0 @@
-//! Which words of a signed program may be reached. The call does nothing; its contract is the law.
-#![tactic(auto)]
-
-ghost use Rattle.reached_words.specs.Reached.{NoWordIsDead};
-
-/// Each word that neither begins a block nor is a break has a word before it.
-pub fn no_word_is_dead()
-    ensures { NoWordIsDead }
-{}

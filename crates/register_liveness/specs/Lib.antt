@@ -1,0 +1,4 @@
+pub mod Uses
+pub mod Blocks
+pub mod Search
+pub mod Met

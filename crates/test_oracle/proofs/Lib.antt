@@ -1,0 +1,6 @@
+pub mod Variables
+pub mod Turns
+pub mod Lists
+pub mod Items
+pub mod Steps
+pub mod Going

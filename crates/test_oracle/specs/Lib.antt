@@ -1,0 +1,4 @@
+pub mod Locals
+pub mod State
+pub mod Ran
+pub mod Standing

@@ -1,0 +1,12 @@
+pub mod Flow
+pub mod Votes
+pub mod Typing
+pub mod Rules
+pub mod Rows
+pub mod Theorems
+pub mod Shapes
+pub mod RuleTests
+pub mod Tables
+pub mod Outcome
+pub mod Masks
+pub mod WindowList

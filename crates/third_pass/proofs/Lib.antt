@@ -1,0 +1,5 @@
+pub mod Absent
+pub mod Emitted
+pub mod Facts
+pub mod Joined
+pub mod Parts

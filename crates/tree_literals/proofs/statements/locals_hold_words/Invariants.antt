@@ -1,7 +1,0 @@
-use Rattle.std.proofs.Common.{◌≡◌, true, take}
-use Rattle.std.specs.List.{list_all}
-use Rattle.tree_rules.specs.Literals.{local_literals}
-use Rattle.tree_literals.proofs.statements.locals_hold_words.Given as goal
-
-abbrev pub invariant-loop-local : goal.invariant-loop-local
-invariant-loop-local l = list_all local_literals (take l.local-index l.locals) ≡ true

@@ -1,2 +1,0 @@
-//! What lowering asks of a tree beyond that its names fit: that its literals are words. Definitions alone.
-#![tactic(auto)]

@@ -1,5 +1,0 @@
-use Rattle.well_formed.proofs.Entries.{DifferBelow}
-use Rattle.well_formed.proofs.functions.differ.Given as goal
-
-abbrev pub invariant-loop-at : goal.invariant-loop-at
-invariant-loop-at l = DifferBelow l.entries l.at

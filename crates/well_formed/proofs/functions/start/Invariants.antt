@@ -1,7 +1,0 @@
-use Rattle.std.proofs.Common.{◌≡◌, take, None}
-use Rattle.std.specs.List.{fold}
-use Rattle.well_formed.specs.Tested.{nearer}
-use Rattle.well_formed.proofs.functions.start.Given as goal
-
-abbrev pub invariant-loop-entry : goal.invariant-loop-entry
-invariant-loop-entry l = l.start ≡ fold (λ s e. nearer l.block s e) None (take l.entry-index l.entries)

@@ -1,8 +1,0 @@
-use Rattle.std.proofs.Common.{take}
-use Rattle.std.specs.Prelude.{◌==◌}
-use Rattle.std.specs.List.{list_any}
-use Rattle.well_formed.specs.Tested.{AreRaised}
-use Rattle.well_formed.proofs.marks.raise_each.Given as goal
-
-abbrev pub invariant-loop-number : goal.invariant-loop-number
-invariant-loop-number l = AreRaised (λ x. list_any (λ y. y == x) (take l.number-index l.numbers)) l.low l.initial.marks l.marks
