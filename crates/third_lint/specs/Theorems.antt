@@ -91,16 +91,22 @@ IsFree text a _ = Unit {0}
 
 -- Of a well typed text whose run is placed and agrees: a bit inverted in a register outside the windows is masked.
 abbrev pub MasksFlips : Type 0
-MasksFlips = (i : ImageFields) (input : List ℕ) (rows : List ThirdRow) → IsText i.text → Typed i.text i.entry rows → PlacedThird i input → Agreed i input → (n r bit : ℕ) → 1 ≤ r → r ≤ 31 → (NearThird i.text (image_run i input None n).state.pc r → ⊥) → Masks i input n r bit
+MasksFlips = (i : ImageFields) (input : List ℕ) (rows : List ThirdRow) → IsText i.text → Typed i.text i.entry rows → PlacedThird i input →
+    Agreed i input → (n r bit : ℕ) → 1 ≤ r → r ≤ 31 → (NearThird i.text (image_run i input None n).state.pc r → ⊥) → Masks i input n r bit
 
 -- The same for any word put in any register, HI, LO or word of memory, and for the premises of the first N steps alone.
 abbrev pub MasksSetsWithin : Type 0
-MasksSetsWithin = (i : ImageFields) (input : List ℕ) (N : ℕ) (rows : List ThirdRow) → IsText i.text → Typed i.text i.entry rows → PlacedThirdFor i input N → AgreedFor i input N → (n : ℕ) (place : SetPlace) (word : ℕ) → IsSet place word → IsFree i.text (image_run i input None n).state.pc place → (k : ℕ) → k ≤ N → IsMasked i input n (Set place word) k
+MasksSetsWithin = (i : ImageFields) (input : List ℕ) (N : ℕ) (rows : List ThirdRow) → IsText i.text → Typed i.text i.entry rows →
+    PlacedThirdFor i input N → AgreedFor i input N → (n : ℕ) (place : SetPlace) (word : ℕ) → IsSet place word →
+    IsFree i.text (image_run i input None n).state.pc place → (k : ℕ) → k ≤ N → IsMasked i input n (Set place word) k
 
 -- The same with no bound.
 abbrev pub MasksSets : Type 0
-MasksSets = (i : ImageFields) (input : List ℕ) (rows : List ThirdRow) → IsText i.text → Typed i.text i.entry rows → PlacedThird i input → Agreed i input → (n : ℕ) (place : SetPlace) (word : ℕ) → IsSet place word → IsFree i.text (image_run i input None n).state.pc place → (k : ℕ) → IsMasked i input n (Set place word) k
+MasksSets = (i : ImageFields) (input : List ℕ) (rows : List ThirdRow) → IsText i.text → Typed i.text i.entry rows → PlacedThird i input →
+    Agreed i input → (n : ℕ) (place : SetPlace) (word : ℕ) → IsSet place word → IsFree i.text (image_run i input None n).state.pc place → (k : ℕ) →
+    IsMasked i input n (Set place word) k
 
 -- The run without a change does not end in a report; so neither does one in which a change is masked.
 abbrev pub NeverReported : Type 0
-NeverReported = (i : ImageFields) (input : List ℕ) (rows : List ThirdRow) → IsText i.text → Typed i.text i.entry rows → PlacedThird i input → Agreed i input → (k code at : ℕ) → (image_run i input None k).state.end ≡ Some (Reported code at) → ⊥
+NeverReported = (i : ImageFields) (input : List ℕ) (rows : List ThirdRow) → IsText i.text → Typed i.text i.entry rows → PlacedThird i input →
+    Agreed i input → (k code at : ℕ) → (image_run i input None k).state.end ≡ Some (Reported code at) → ⊥
