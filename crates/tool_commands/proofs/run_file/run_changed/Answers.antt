@@ -1,4 +1,4 @@
-use Rattle.std.proofs.Common.{List, ℕ, Some, ap}
+use Rattle.std.proofs.Common.{List, ℕ, Some, ap, refl, inr}
 use Rattle.std.specs.Prelude.{IsTrue}
 use Rattle.elf_image.specs.Layout.{fields_of}
 use Rattle.fault_replay.specs.Show.{shown}
@@ -7,7 +7,7 @@ use Rattle.mips_isa.specs.Machine.{State}
 use Rattle.mips_isa.specs.Runs.{run}
 use Rattle.mips_machine.specs.View.{state_of}
 use Rattle.tool_words.specs.Commands.{RunChanged}
-use Rattle.tool_outcomes.proofs.Calls.{refused_call, done_call}
+use Rattle.tool_outcomes.proofs.Calls.{refused_call, done_call, memory_failed}
 use Rattle.tool_commands.proofs.run_file.run_changed.Goals as goal
 
 pub returns-in-Err : goal.returns-in-Err
@@ -38,3 +38,10 @@ returns-in-Ok-booted g c =
       ),
     ))
     (record { ok = c.replay.ensures.ok; fault = c.replay.ensures.fault; part = c.replay.ensures.part }) c.status_of_text.ensures
+
+pub returns-in-Err-booted : goal.returns-in-Err-booted
+returns-in-Err-booted g c =
+    let w = c.args.words.now in
+    let quiet = c.report-in-Err-booted.ensures.silent (inr refl) in
+    memory_failed (IsTrue (g.H.Shelf.tells c.args.shelf.now)) (g.H.Shelf.held c.args.shelf.now) _ _ _ (g.O.Sink.written c.args.out.now) (g.O.Sink.written c.report-in-Err-booted.new.out) _
+    (RunChanged w.image.now w.input.now w.steps w.fault.now) c.report-in-Err-booted.result (λ t. c.in-Ok.ensures.same) quiet.0 quiet.1
