@@ -1,7 +1,7 @@
 //! The program `hardcc`: it does what the words of its command line say.
 #![tactic(auto)]
 
-ghost use Rattle.std.specs.Prelude.{◌≡◌, ◌⊎◌, ◌×◌, IfOk, IsTrue, drop};
+ghost use Rattle.std.specs.Prelude.{◌≡◌, ◌⊎◌, IfOk, IsTrue, drop};
 ghost use Rattle.std.specs.Vec.Iter.{into_iter_items};
 ghost use Rattle.hard_shelf.specs.Outside.{Rose, SameNames};
 ghost use Rattle.tool_words.specs.Commands.{command};

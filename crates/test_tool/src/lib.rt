@@ -5,3 +5,5 @@
 mod compiled;
 #[cfg(test)]
 mod laws;
+#[cfg(test)]
+mod unfailing;

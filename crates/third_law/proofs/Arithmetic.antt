@@ -2,11 +2,10 @@
 use Rattle.std.proofs.Common.{◌≡◌, ◌≢◌, ◌≤◌, ◌<◌, ℕ, zero, suc, ◌+◌, ◌-◌, ◌*◌, ◌/◌, ◌%◌, ◌^◌, arith, ap, refl, sym, ◌∙◌, subst, List, [], ◌∷◌, ◌++◌, append_assoc, length, get_or, Bool, true, false, cond, not, inl, inr, le_refl, mod-lt, ℤ, pos, negsuc, w32, w64}
 use Rattle.std.specs.Prelude.{Option, Some, None, Result, Ok, Err, ◌⊎◌, ◌==◌, ◌&&◌, nat_le, nat_lt, slice_index, slice_set, if◌then◌else◌, IsTrue, bit_or, bit_and, bit_xor, int_lt, int_div, int_rem}
 use Rattle.std.specs.Int.{cast_unsigned}
-use Rattle.std.proofs.lemmas.Nat.{and_le_l, and_le_r, or_lt, xor_lt, or_shifted}
+use Rattle.std.proofs.lemmas.Nat.{and_le_l, and_le_r, or_shifted}
 use Rattle.std.specs.Int.Bits.{xor_self, xor_add_and, or_zero_r}
-use Rattle.hard_words.specs.Words.{extended, signed, signed_shift, signed_product, signed_division, division}
-use Rattle.mid_blocks.specs.Run.{operate, truth, by_non_zero, with_sign}
-use Rattle.hard_words.proofs.Shifts.{signed_shift_small}
+use Rattle.hard_words.specs.Words.{extended, signed, signed_product, signed_division, division}
+use Rattle.mid_blocks.specs.Run.{truth, by_non_zero, with_sign}
 use Rattle.mips_isa.specs.Machine.{plus}
 
 -- ---- words

@@ -1,6 +1,6 @@
 -- A call, and a return to the word behind one.
 use Rattle.std.proofs.Common.{◌≡◌, ◌≢◌, ◌≤◌, ◌<◌, ℕ, zero, suc, ◌+◌, ◌-◌, ◌*◌, ◌/◌, ◌%◌, ◌^◌, arith, ap, refl, sym, ◌∙◌, subst, List, [], ◌∷◌, ◌++◌, length, Bool, true, false, inl, inr}
-use Rattle.std.specs.Prelude.{Option, Some, None, slice_index, bit_or}
+use Rattle.std.specs.Prelude.{None, bit_or}
 use Rattle.hard_runs.specs.Stepping.{Leads}
 use Rattle.hard_runs.proofs.Following.{leads_on}
 use Rattle.mips_isa.specs.declared.instr.Instr.{Instr}
@@ -8,7 +8,6 @@ use Rattle.mips_isa.specs.declared.instr.Instr.TheVariants.{Lui, Ori, Jal, Jr}
 use Rattle.mips_isa.specs.Machine.{State, step, reg, moved, written, plus, jump_target}
 use Rattle.third_law.specs.declared.roles.Stream.{Stream}
 use Rattle.third_law.specs.declared.roles.Stream.TheVariants.{First, Second, Third}
-use Rattle.third_law.specs.declared.roles.Role.{Role}
 use Rattle.third_law.specs.declared.roles.Role.TheVariants.{Link}
 use Rattle.third_law.specs.Roles.{reg_in, nop, vote}
 use Rattle.third_law.specs.Emitted.{call_code}
@@ -16,7 +15,7 @@ use Rattle.third_law.proofs.Sights.{Sight, Sees, Sound, Tripled, put, reg_not_ze
 use Rattle.third_law.proofs.Going.{machine, WordAt, Stands, Done, Before, address, step_is, calm_here, stands_first, stands_rest}
 use Rattle.third_law.proofs.Voting.{Good, wrote, write_leads, write_on, does_vote}
 use Rattle.third_law.proofs.Loading.{one_step}
-use Rattle.third_law.proofs.Control.{InSlot, Passed, passes, Landed, lands, aim, Arrives}
+use Rattle.third_law.proofs.Control.{Passed, passes, Landed, lands, aim, Arrives}
 use Rattle.third_law.proofs.Leading.{Runnable, SameSight}
 use Rattle.third_law.proofs.Arithmetic.{word_joined}
 use Rattle.third_law.proofs.Operations.{put_twice}

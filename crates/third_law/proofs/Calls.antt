@@ -20,7 +20,7 @@ use Rattle.third_law.proofs.Storing.{set_cell}
 use Rattle.third_law.proofs.Leading.{Runnable, Does, does_nothing, does_then, does_load, does_store, with_words}
 use Rattle.third_law.proofs.Arithmetic.{extended_low}
 use Rattle.third_law.proofs.Operations.{put_there, put_beside, put_word, does_two, does_zero, does_move, two_addiu, two_copy}
-use Rattle.third_law.proofs.Places.{offset_in, Frame, PlaceFits, in_place, IsKept, Near, near_self, near_then, near_put, near_frame, near_place, fetch, does_fetched, fetch_near, fetch_word, source_fits, does_brought, NotRole, NotCell, SetsPlace, keep, keep_sets, slot_leads}
+use Rattle.third_law.proofs.Places.{offset_in, Frame, PlaceFits, in_place, IsKept, Near, near_self, near_frame, fetch, does_fetched, fetch_near, fetch_word, source_fits, does_brought, NotRole, SetsPlace, keep_sets, slot_leads}
 use Rattle.third_law.proofs.Steps.{StandsIn, slot_sets}
 
 eq_self : (n : ℕ) → (n == n) ≡ true

@@ -23,8 +23,8 @@ use Rattle.third_law.specs.declared.roles.Stream.{Stream}
 use Rattle.third_law.specs.declared.roles.Role.{Role}
 use Rattle.third_law.specs.declared.roles.Role.TheVariants.{Value, Stack}
 use Rattle.third_law.specs.Roles.{reg_in, each, product, load, store, test}
-use Rattle.third_law.specs.Emitted.{place_of, step_code, constant, target, kept, copy_code, operation, operation_tests, fetched, source, brought, upper, lower, three, element, service_code, input_code}
-use Rattle.third_law.specs.Program.{cell_address, first_block}
+use Rattle.third_law.specs.Emitted.{place_of, constant, target, kept, copy_code, operation, operation_tests, fetched, source, brought, upper, lower, three, element, service_code, input_code}
+use Rattle.third_law.specs.Program.{cell_address}
 use Rattle.third_law.specs.Runs.{blocks, line_says}
 use Rattle.third_law.proofs.Sights.{Sight, AreWords}
 use Rattle.third_law.proofs.Going.{stands_first}
@@ -34,7 +34,7 @@ use Rattle.third_law.proofs.Starving.{stops_starved}
 use Rattle.third_law.proofs.Places.{PlaceFits, in_place, NotRole, near_frame, near_holds, sets_holds}
 use Rattle.third_law.proofs.Steps
 use Rattle.third_law.proofs.Steps.{StandsIn, DoesSet, DoesPass, DoesSetCell, SetsCell, DoesSetTaken, DoesSpeakNear, took}
-use Rattle.third_law.proofs.Relation.{Wanted, StepAt, Flow, GlobalsHold, rest_code, Laid, Related, Outside, near_outside, sets_outside, cell_outside, globals_same, sets_globals, stores_globals, global_below}
+use Rattle.third_law.proofs.Relation.{Wanted, StepAt, Flow, rest_code, Laid, Related, Outside, near_outside, sets_outside, cell_outside, globals_same, sets_globals, stores_globals, global_below}
 use Rattle.third_law.proofs.Stages.{StageOf, stage_speaks, line_is, high_step, stepped, code_of, step_stands, advance, Setting, silent, stopping, setting, passing, front_nil, back_nil}
 
 -- ---- no step is without items

@@ -3,7 +3,7 @@ use Rattle.std.proofs.Common.{◌≡◌, ◌≢◌, ◌≤◌, ◌<◌, ℕ, zer
 use Rattle.std.specs.Prelude.{Option, Some, None, slice_get, slice_index_or, All}
 use Rattle.std.proofs.lemmas.Option.{slice_get_within, get_or_from_slice_get}
 use Rattle.mips_isa.specs.declared.instr.Instr.{Instr}
-use Rattle.mips_isa.specs.Table.{encoding, decoded, IsInRange}
+use Rattle.mips_isa.specs.Table.{encoding, IsInRange}
 use Rattle.mips_isa.specs.Inverse.{DecodesEncoded}
 use Rattle.mips_text.specs.Text.{IsText}
 use Rattle.mid_blocks.specs.declared.code.MidBlock.{MidBlock}

@@ -1,11 +1,10 @@
 -- A text that can be run, and what each piece of code does in it from one sight to another.
-use Rattle.std.proofs.Common.{◌≡◌, ◌≢◌, ◌≤◌, ◌<◌, ℕ, zero, suc, ◌+◌, ◌%◌, ◌^◌, arith, ap, refl, sym, ◌∙◌, subst, List, [], ◌∷◌, ◌++◌, length, length-append, Bool, true, false}
-use Rattle.std.specs.Prelude.{Option, Some, None, slice_index, nat_lt}
-use Rattle.hard_runs.specs.Stepping.{Leads}
+use Rattle.std.proofs.Common.{◌≡◌, ◌≢◌, ◌<◌, ℕ, ◌+◌, ◌^◌, arith, ap, sym, ◌∙◌, subst, List, [], ◌++◌, length, length-append}
+use Rattle.std.specs.Prelude.{slice_index}
 use Rattle.hard_runs.proofs.Following.{leads_on}
 use Rattle.mips_isa.specs.declared.instr.Instr.{Instr}
 use Rattle.mips_isa.specs.declared.instr.End.{End}
-use Rattle.mips_isa.specs.declared.instr.End.TheVariants.{Trapped, Exited, Starved}
+use Rattle.mips_isa.specs.declared.instr.End.TheVariants.{Trapped, Exited}
 use Rattle.mips_isa.specs.Machine.{State, break_end}
 use Rattle.mips_text.specs.Text.{IsText}
 use Rattle.third_law.specs.declared.roles.Stream.{Stream}
@@ -14,7 +13,7 @@ use Rattle.third_law.specs.declared.roles.Role.TheVariants.{Value}
 use Rattle.third_law.specs.Roles as roles
 use Rattle.third_law.specs.Roles.{RoleFits, each, product}
 use Rattle.third_law.specs.Emitted.{service_code, input_code}
-use Rattle.third_law.proofs.Sights.{Sight, AreWords, Sees, Sound, Tripled, put}
+use Rattle.third_law.proofs.Sights.{Sight, AreWords, Tripled, put}
 use Rattle.third_law.proofs.Going as going
 use Rattle.third_law.proofs.Going.{machine, Before, Stands, Done, stands_first, stands_rest}
 use Rattle.third_law.proofs.Voting as voting

@@ -1,9 +1,8 @@
 -- Constants, copies and operations in all streams.
 use Rattle.std.proofs.Common.{◌≡◌, ◌≢◌, ◌≤◌, ◌<◌, ℕ, zero, suc, ◌+◌, ◌-◌, ◌*◌, ◌/◌, ◌%◌, ◌^◌, arith, ap, refl, sym, ◌∙◌, subst, List, [], ◌∷◌, ◌++◌, append_assoc, length, get_or, Bool, true, false, cond, not, inl, inr, le_refl, mod-lt, ℤ, pos, negsuc, w32, w64}
-use Rattle.std.specs.Prelude.{Option, Some, None, Result, Ok, Err, ◌⊎◌, ◌==◌, ◌&&◌, nat_le, nat_lt, slice_index, slice_set, if◌then◌else◌, IsTrue, bit_or, bit_and, bit_xor, int_lt, int_div, int_rem}
+use Rattle.std.specs.Prelude.{Result, Ok, ◌==◌, ◌&&◌, nat_le, nat_lt, slice_index, if◌then◌else◌, bit_or, bit_and, bit_xor, int_lt, int_div, int_rem}
 use Rattle.std.specs.Int.{cast_unsigned}
-use Rattle.std.proofs.lemmas.Nat.{and_le_l, and_le_r, or_lt, xor_lt, or_shifted}
-use Rattle.std.specs.Int.Bits.{xor_self, xor_add_and, or_zero_r}
+use Rattle.std.proofs.lemmas.Nat.{and_le_l, or_lt, xor_lt}
 use Rattle.hard_words.specs.Words.{extended, signed, signed_shift, signed_product, signed_division, division}
 use Rattle.mips_isa.specs.declared.instr.Instr.{Instr}
 use Rattle.mips_isa.specs.declared.instr.Instr.TheVariants as mips
@@ -12,7 +11,7 @@ use Rattle.mips_isa.specs.Machine as machine
 use Rattle.mips_isa.specs.Machine.{State, plus}
 use Rattle.mid_blocks.specs.declared.code.MidOp.{MidOp}
 use Rattle.mid_blocks.specs.declared.code.MidOp.TheVariants as op
-use Rattle.mid_blocks.specs.Run.{operate, truth, by_non_zero, with_sign}
+use Rattle.mid_blocks.specs.Run.{operate, truth}
 use Rattle.third_law.specs.declared.roles.Role.{Role}
 use Rattle.third_law.specs.declared.roles.Role.TheVariants.{Value, Stack, Link}
 use Rattle.third_law.specs.Roles.{reg_in, each, product, move}
@@ -22,7 +21,7 @@ use Rattle.hard_words.proofs.Shifts.{signed_shift_small}
 use Rattle.third_law.proofs.Sights.{Sight, AreWords, put, same_role, reg_high}
 use Rattle.third_law.proofs.Voting.{GoodBy}
 use Rattle.third_law.proofs.Leading.{Runnable, Does, does_then, does_each, does_product, SameSight, does_same}
-use Rattle.third_law.proofs.Arithmetic.{truth_small, shift_small, xor_zero, equal_fn, differ_fn, half_small, word_low, word_high, extended_high, extended_low, word_negative, word_joined, high_part, copy_small, ok_same, sum_of, neg_low, below_pos, above_neg, suc_of, suc_le, both_neg, low_product, abs_neg, from_abs, quot_abs, rem_small, rem_abs, abs_signed, quot_word, rem_word, err_ok, sign_ok, unsigned_ok, cond_false, signed_parts, unsigned_parts}
+use Rattle.third_law.proofs.Arithmetic.{truth_small, shift_small, equal_fn, differ_fn, word_high, word_negative, word_joined, high_part, copy_small, ok_same, low_product, rem_small, quot_word, rem_word, sign_ok, unsigned_ok, signed_parts, unsigned_parts}
 
 -- ---- a computation from two registers
 

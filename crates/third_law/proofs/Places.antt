@@ -11,7 +11,7 @@ use Rattle.third_law.specs.declared.roles.Stream.{Stream}
 use Rattle.third_law.specs.declared.roles.Stream.TheVariants.{First, Second, Third}
 use Rattle.third_law.specs.declared.roles.Role.{Role}
 use Rattle.third_law.specs.declared.roles.Role.TheVariants.{Value, Stack, Link}
-use Rattle.third_law.specs.Roles.{off_in, load}
+use Rattle.third_law.specs.Roles.{off_in}
 use Rattle.third_law.specs.Emitted.{place_of, slot_offset, source, fetched, brought, target, kept}
 use Rattle.third_law.specs.Roles.{RoleFits}
 use Rattle.third_law.proofs.Sights.{Sight, AreWords, lane, put, same_role}

@@ -27,7 +27,7 @@ use Rattle.third_law.proofs.Going.{machine, Stands, Before, Done, stands_first, 
 use Rattle.third_law.proofs.Voting.{Good}
 use Rattle.third_law.proofs.Speaking.{Stops}
 use Rattle.third_law.proofs.Leading.{Runnable, Does, DoesStop, behind_both}
-use Rattle.third_law.proofs.Places.{Frame, PlaceFits, Near, NotRole, SetsPlace, Holds, near_frame, near_holds, sets_holds}
+use Rattle.third_law.proofs.Places.{Frame, PlaceFits, NotRole, Holds, near_frame, near_holds, sets_holds}
 use Rattle.third_law.proofs.Steps.{DoesSet, DoesPass}
 use Rattle.third_law.proofs.Relation.{Wanted, StepAt, Flow, GlobalsHold, rest_code, Laid, Related, Outside, waits_kept, near_outside, sets_outside, globals_same, sets_globals}
 

@@ -1,7 +1,6 @@
 -- The start: the items before the first line of the main function.
 use Rattle.std.proofs.Common.{◌≡◌, ◌≢◌, ◌≤◌, ◌<◌, ℕ, zero, suc, ◌+◌, ◌-◌, ◌*◌, ◌/◌, ◌%◌, ◌^◌, arith, ap, refl, sym, ◌∙◌, subst, List, [], ◌∷◌, ◌++◌, append_assoc, append-nil, length, get_or, take, drop, map, replicate, Bool, true, false, cond, not, inl, inr, le_refl, le_trans, flat_map, sum, add-zero}
 use Rattle.std.specs.Prelude.{Option, Some, None, slice_get, slice_index, slice_index_or, bit_or}
-use Rattle.hard_runs.specs.Stepping.{Leads}
 use Rattle.hard_runs.proofs.Following.{leads_on}
 use Rattle.mips_isa.specs.declared.instr.Instr.TheVariants as mips
 use Rattle.mid_blocks.specs.declared.code.MidBlock.{MidBlock}
@@ -15,8 +14,7 @@ use Rattle.mips_isa.specs.Machine.{State, plus}
 use Rattle.mips_isa.specs.Image.{boot_state}
 use Rattle.third_law.specs.declared.roles.Stream.{Stream}
 use Rattle.third_law.specs.declared.roles.Stream.TheVariants.{First, Second, Third}
-use Rattle.third_law.specs.declared.roles.Role.{Role}
-use Rattle.third_law.specs.declared.roles.Role.TheVariants.{Value, Stack, Link}
+use Rattle.third_law.specs.declared.roles.Role.TheVariants.{Stack, Link}
 use Rattle.third_law.specs.Roles.{reg_in, each}
 use Rattle.third_law.specs.Emitted.{call_code, enter_code}
 use Rattle.third_law.specs.Program.{cell_address, first_block, first_code, tripled, third_image}

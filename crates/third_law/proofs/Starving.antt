@@ -1,6 +1,6 @@
 -- A word of the input is asked for and none is left.
-use Rattle.std.proofs.Common.{◌≡◌, ◌≢◌, ◌≤◌, ◌<◌, ℕ, zero, suc, ◌+◌, ◌%◌, ◌^◌, arith, ap, refl, sym, ◌∙◌, subst, List, [], ◌∷◌, length, Bool, true, false, cond}
-use Rattle.std.specs.Prelude.{None, Some, Option, slice_index, ◌==◌, bit_or, nat_lt}
+use Rattle.std.proofs.Common.{◌≡◌, ◌≢◌, ℕ, suc, arith, ap, refl, ◌∙◌, List, length, Bool, true, false}
+use Rattle.std.specs.Prelude.{Some, Option, ◌==◌, bit_or, nat_lt}
 use Rattle.mips_isa.specs.declared.instr.End.TheVariants.{Starved, Exception}
 use Rattle.mips_isa.specs.declared.instr.Instr.TheVariants.{Ori, Syscall}
 use Rattle.mips_isa.specs.Machine.{State, step, reg, service, ended}

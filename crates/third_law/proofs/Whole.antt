@@ -30,7 +30,7 @@ use Rattle.mid_blocks.specs.Valid.{ValidFunction}
 use Rattle.frame_plan.specs.Frames.{global_length}
 use Rattle.third_law.specs.Program.{third_image, third_text}
 use Rattle.third_law.specs.Runs.{end_of, blocks, blocks_seen, says, line_says, step_says}
-use Rattle.third_law.specs.Law.{FitsThree, Triples, RunsInThree, RunInThree, IsPlaced, Agrees, state_after}
+use Rattle.third_law.specs.Law.{FitsThree, Triples, RunInThree, state_after}
 use Rattle.third_law.proofs.Sights.{Sight}
 use Rattle.third_law.proofs.Going.{machine}
 use Rattle.third_law.proofs.Voting.{Good}

@@ -1,16 +1,13 @@
 -- A valid program has all ways that the simulation goes.
 use Rattle.std.proofs.Common.{◌≡◌, ◌≢◌, ◌≤◌, ◌<◌, ℕ, zero, suc, ◌+◌, ◌-◌, ◌*◌, ◌/◌, ◌%◌, ◌^◌, arith, ap, refl, sym, ◌∙◌, subst, List, [], ◌∷◌, ◌++◌, length, get_or, take, map, Bool, true, false, cond, inl, inr, flat_map, sum, le_refl, le_trans}
-use Rattle.std.specs.Prelude.{Option, Some, None, ◌⊎◌, slice_get, Contains, All, Any}
-use Rattle.std.proofs.lemmas.Option.{slice_get_within, get_or_from_slice_get, slice_get-get_or}
-use Rattle.std.proofs.lemmas.List.{get_or_append_left}
-use Rattle.mips_isa.specs.declared.instr.Instr.TheVariants as mips
+use Rattle.std.specs.Prelude.{Option, Some, None, ◌⊎◌, slice_get, All, Any}
+use Rattle.std.proofs.lemmas.Option.{slice_get_within, get_or_from_slice_get}
 use Rattle.mid_blocks.specs.declared.code.MidEnd.{MidEnd}
 use Rattle.mid_blocks.specs.declared.code.MidEnd.TheVariants.{Jump, Branch, Call, Return}
 use Rattle.mid_blocks.specs.declared.code.MidBlock.{MidBlock}
 use Rattle.mid_blocks.specs.declared.code.MidFunction.{MidFunction}
 use Rattle.mid_blocks.specs.declared.code.Mid.{Mid}
 use Rattle.mid_blocks.specs.declared.places.Places.{Places}
-use Rattle.mid_blocks.specs.Liveness.{PlacesFit}
 use Rattle.mid_blocks.specs.Valid.{ValidFunction, Valid, IsTarget, IsBehind, target, falls_on, is_call}
 use Rattle.third_law.specs.Program.{start_code, behind_block, behind_end}
 use Rattle.third_law.specs.Law.{FitsThree, AllFitThree}

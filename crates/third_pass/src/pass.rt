@@ -7,7 +7,7 @@ ghost use Rattle.mid_blocks.specs.Bounds.{Shallow, Proper};
 ghost use Rattle.mid_blocks.specs.Size.{words};
 ghost use Rattle.frame_plan.specs.Frames.{IsPlan, cells};
 ghost use Rattle.mid_blocks.specs.Words.{HasWords};
-ghost use Rattle.third_law.specs.Law.{AllFitThree};
+ghost use Rattle.third_law.specs.Law.{AllFitThree, RunsInThree};
 ghost use Rattle.third_law.specs.Program.{cell_address, first_block, first_code, exit_code, code_at, looked_up, starts_from, third_text};
 ghost use Rattle.third_pass.specs.Emits.{GlobalsKnown, firsts_from};
 ghost use Rattle.third_pass.specs.Ready.{spread, AreFirsts, AllReady};
@@ -20,7 +20,7 @@ use hard_words::{OutOfMemory, Sequence};
 use mid_blocks::{Mid, MidFunction, Places};
 use mips_isa::{Instr, encode};
 use std::alloc::Global;
-use third_law::{Role, few_in_three, in_range_in_three};
+use third_law::{Role, few_in_three, in_range_in_three, run_in_three};
 
 /// The address of the first word of memory.
 const MEMORY: u32 = 0x1001_0000;
@@ -146,6 +146,9 @@ fn text_of(alloc: Global, blocks: &[Sequence<Instr>]) -> Result<Vec<u32>, OutOfM
 /// Makes the code of a program in three streams that vote before each use. Its variables stand in these places, one list for each
 /// function, and its frames by this plan, with each distance doubled. The answer is the text; the entry is its first word.
 ///
+/// In an image that begins with each word of the globals three times and a 0, its run is the same from outside as that of the
+/// program in blocks; it has at most four words for each word that the blocks were counted for.
+///
 /// # Errors
 ///
 /// [`OutOfMemory`] where there is no memory.
@@ -163,9 +166,11 @@ pub fn third(
     requires few { words mid.now ≤ 15728640 }
     requires plan { IsPlan mid.now plan.now }
     ensures text { IfOk result (λ text. text.items ≡ third_text mid.now places.now) }
+    ensures runs { IfOk result (λ text. RunsInThree mid.now text.items) }
 {
     few_in_three();
     in_range_in_three();
+    run_in_three();
     let firsts = first_blocks(alloc, mid.functions.as_slice())?;
     let addresses = spread(alloc, plan.globals.as_slice())?;
     let top = MEMORY + 2 * (plan.stack_top - MEMORY);

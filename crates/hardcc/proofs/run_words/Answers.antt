@@ -1,4 +1,6 @@
-use Rattle.std.proofs.Common.{List, ℕ, subst, inl}
+use Rattle.std.proofs.Common.{List, subst, inl}
+use Rattle.std.specs.declared.alloc.Global.{Global}
+use Rattle.std.specs.declared.string.String.{String}
 use Rattle.std.specs.Prelude.{IsTrue}
 use Rattle.hard_shelf.specs.Outside.{Rose}
 use Rattle.tool_words.specs.Commands.{command}
@@ -11,7 +13,7 @@ returns-in-Ok g c =
     let old : Held = g.H.Shelf.held c.args.shelf.now in
     let new : Held = g.H.Shelf.held c.run_tool.new.shelf in
     let is = c.run_tool.ensures in
-    inl (subst (λ (words : List (List ℕ)). Leaves (IsTrue (g.H.Shelf.tells c.args.shelf.now)) old new (Rose (g.H.Shelf.faults c.args.shelf.now) (g.H.Shelf.faults c.run_tool.new.shelf))
+    inl (subst (λ (words : List (String Global)). Leaves (IsTrue (g.H.Shelf.tells c.args.shelf.now)) old new (Rose (g.H.Shelf.faults c.args.shelf.now) (g.H.Shelf.faults c.run_tool.new.shelf))
     (IsTrue (g.O.Sink.tells c.args.out.now)) (g.O.Sink.written c.args.out.now) (g.O.Sink.written c.run_tool.new.out) (Rose (g.O.Sink.faults c.args.out.now) (g.O.Sink.faults c.run_tool.new.out))
     (command words) c.run_tool.result) c.in-Ok.ensures (record {
       statuses = is.statuses;

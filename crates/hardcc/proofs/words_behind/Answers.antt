@@ -1,7 +1,6 @@
 use Rattle.std.proofs.Common.{◌≡◌, ◌∷◌, [], List, length, refl, sym, ◌∙◌, arith}
 use Rattle.std.specs.Vec.Iter.{into_iter_items, into_iter_len}
 use Rattle.std.specs.declared.vec.IntoIter.{IntoIter}
-use Rattle.hardcc.proofs.words_behind.Goals as goal
 
 no_items : {X : Type 0} (l : List X) → length l ≡ 0 → l ≡ []
 no_items [] h = refl

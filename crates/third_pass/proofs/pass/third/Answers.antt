@@ -3,6 +3,7 @@ use Rattle.std.specs.Prelude.{All}
 use Rattle.mips_isa.specs.declared.instr.Instr.{Instr}
 use Rattle.mips_isa.specs.Table.{encoding, IsInRange}
 use Rattle.mid_blocks.specs.declared.code.MidFunction.{MidFunction}
+use Rattle.third_law.specs.Law.{RunsInThree}
 use Rattle.third_law.specs.Program.{code_at, looked_up, starts_from, third_code}
 use Rattle.third_pass.specs.Emits.{GlobalsKnown}
 use Rattle.third_pass.specs.Ready.{spread, AllReady}
@@ -65,6 +66,12 @@ text_of-requires c =
 pub returns : goal.returns
 returns c = record {
   text = for_ok c.text_of.result (λ t. t.items ≡ map encoding (flat_map (λ k. k) c.as_slice-10.result.now)) (λ t. t.items ≡ map encoding (flat_map (λ k. k) (third_code c.args.mid.now c.args.places.now))) c.text_of.ensures
-      (λ t e. e ∙ ap (λ (l : List (List Instr)). map encoding (flat_map (λ k. k) l)) (c.as_slice-10.ensures ∙ (c.in_ok-code.ensures ∙ ap (λ (l : List ℕ). code_at (looked_up l) c.args.mid.now c.args.places.now) (c.as_slice-8.ensures.value ∙ (c.in_ok-starts.ensures ∙
-      (ap (starts_from 0x00400000) (c.as_slice-6.ensures ∙ c.in_ok-counted.ensures) ∙ ap (λ (l : List ℕ). starts_from 0x00400000 (code_at (looked_up l) c.args.mid.now c.args.places.now)) (c.as_slice-4.ensures.value ∙ c.new-none.ensures.items)))))));
+      (λ t e. e ∙ same);
+  runs = for_ok c.text_of.result (λ t. t.items ≡ map encoding (flat_map (λ k. k) c.as_slice-10.result.now)) (λ t. RunsInThree c.args.mid.now t.items) c.text_of.ensures
+      (λ t e. subst (λ (l : List ℕ). RunsInThree c.args.mid.now l) (sym (e ∙ same)) (c.run_in_three.ensures c.args.mid.now c.args.places.now
+      (record { valid = c.requires.valid; shallow = c.requires.shallow; proper = c.requires.proper; has_words = c.requires.words; fit = c.requires.fit; few = c.requires.few })));
 }
+  where
+    same : map encoding (flat_map (λ k. k) c.as_slice-10.result.now) ≡ map encoding (flat_map (λ k. k) (third_code c.args.mid.now c.args.places.now))
+    same = ap (λ (l : List (List Instr)). map encoding (flat_map (λ k. k) l)) (c.as_slice-10.ensures ∙ (c.in_ok-code.ensures ∙ ap (λ (l : List ℕ). code_at (looked_up l) c.args.mid.now c.args.places.now) (c.as_slice-8.ensures.value ∙ (c.in_ok-starts.ensures ∙
+        (ap (starts_from 0x00400000) (c.as_slice-6.ensures ∙ c.in_ok-counted.ensures) ∙ ap (λ (l : List ℕ). starts_from 0x00400000 (code_at (looked_up l) c.args.mid.now c.args.places.now)) (c.as_slice-4.ensures.value ∙ c.new-none.ensures.items))))))
