@@ -5,7 +5,7 @@ Each program is compiled, run to its end, audited, and flipped: at each step one
 compared with what is written here, worked out by hand or by Python. A flip that goes unseen outside the windows is an error, and so is an
 audit that isn't passed.
 
-Build the program first: rt run in crates/hardcc. Usage: campaigns.py
+Build the program first: rt ci. Usage: campaigns.py
 """
 import subprocess
 

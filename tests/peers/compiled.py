@@ -4,7 +4,7 @@ simulator, Unicorn (Debian: python3-unicorn, for /usr/bin/python3), where it is 
 
 The programs are those of `hardcc make`. A host's run shows the meaning of the C text, and Unicorn's that of the image's words.
 
-Build the program first: rt run in crates/hardcc. Usage: compiled.py [PROGRAMS [FIRST NUMBER]]
+Build the program first: rt ci. Usage: compiled.py [PROGRAMS [FIRST NUMBER]]
 """
 import shutil
 import struct

@@ -1,6 +1,6 @@
 #!/usr/bin/env bash
 # Compares what each program of examples/ puts out, compiled in every way that hardcc has, with its wanted output and with what the
-# host's C compiler makes of the same text. Build the program first: rt run in crates/hardcc, or name it in HARDCC.
+# host's C compiler makes of the same text. Build the program first: rt ci, or name it in HARDCC.
 set -eu
 top=$(cd "$(dirname "$0")/../.." && pwd)
 program=${HARDCC:-$top/crates/hardcc/out/hardcc}

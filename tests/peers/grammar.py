@@ -5,7 +5,7 @@ Programs are drawn from the grammar of docs/LANGUAGE.md, part 2: the program mus
 must read it. Then each is changed at one or two tokens: what the program then does not refuse with NoProgram, pycparser must
 read too, since the subset is a part of C. Programs that pycparser alone reads are counted; they use what was left out.
 
-Build the program first: rt run in crates/hardcc. Usage: grammar.py [PROGRAMS [SEED]]
+Build the program first: rt ci. Usage: grammar.py [PROGRAMS [SEED]]
 """
 import random
 import subprocess

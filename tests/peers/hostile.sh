@@ -1,6 +1,6 @@
 #!/usr/bin/env bash
 # Compiles texts that a careless compiler takes long over: deep nesting, and a million of each sign. Each has to end in its refusal
-# within a second. Build the program first: rt run in crates/hardcc. Needs python3.
+# within a second. Build the program first: rt ci. Needs python3.
 set -u
 top=$(cd "$(dirname "$0")/../.." && pwd)
 program=$top/crates/hardcc/out/hardcc

@@ -1,5 +1,5 @@
 #!/usr/bin/env bash
-# Compares a written image with what readelf says of it. Build the program first: rt run in crates/hardcc.
+# Compares a written image with what readelf says of it. Build the program first: rt ci.
 set -eu
 top=$(cd "$(dirname "$0")/../.." && pwd)
 program=$top/crates/hardcc/out/hardcc

@@ -1,6 +1,6 @@
 #!/usr/bin/env bash
 # Refuses each allocation of a call of the program in turn, and tells where the call then does anything but end with status 9,
-# with nothing printed and nothing put. Build the program first: rt run in crates/hardcc. It needs a C compiler, for a library
+# with nothing printed and nothing put. Build the program first: rt ci. It needs a C compiler, for a library
 # that stands between the program and the system's allocator.
 set -eu
 top=$(cd "$(dirname "$0")/../.." && pwd)

@@ -6,7 +6,7 @@ alone, and its registers and memory are compared with what `hardcc run` prints. 
 anew, from docs/MACHINE.md and docs/IMAGE.md. What Unicorn leaves open or does otherwise (hazards, division by 0, misses)
 is not drawn; an overflow ends both runs.
 
-Build the program first: rt run in crates/hardcc. Usage: runs.py [IMAGES [SEED]]
+Build the program first: rt ci. Usage: runs.py [IMAGES [SEED]]
 """
 import random
 import struct
