@@ -9,7 +9,7 @@ import sys
 
 import house
 
-ALLOWED_IMPORTS = 553
+ALLOWED_IMPORTS = 552
 ALLOWED_STEPS_BACK = 0
 
 
