@@ -7,4 +7,6 @@ mod refusals;
 #[cfg(test)]
 mod texts;
 #[cfg(test)]
+mod third_texts;
+#[cfg(test)]
 mod windows;
